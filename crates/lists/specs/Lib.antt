@@ -1,0 +1,4 @@
+pub mod Find
+pub mod Onto
+pub mod Sum
+pub mod Table
