@@ -1,0 +1,3 @@
+pub mod Cuts
+pub mod Firsts
+pub mod Vectors
