@@ -1,7 +1,7 @@
 -- What tests that find nothing tell: a pointer for each row and one more, and each row within the entries.
 -- Assumes nothing.
-use mathlib.Core.Path.{_≡_, refl}
-use mathlib.Core.Bool.{Bool, true, false, _||_, true≢false}
+use mathlib.Core.Path.{_≡_}
+use mathlib.Core.Bool.{_||_}
 use mathlib.Core.List.{List}
 use Prim.Native.Nat.{ℕ, _+_, _≤_, _<_}
 use native.Mathlib.Omega.{arith}
@@ -14,7 +14,7 @@ use Rattle.sparse.specs.Refusals.{refuse}
 use Rattle.sparse.specs.Tests.{sizeTest, shapeTest, rowTest, rowsTest, matrixTest, wellFormed}
 use Rattle.sparse.specs.declared.Refusal.the-variants.{Pointer}
 use Rattle.sparse.specs.declared.Tested.the-variants.{Good}
-use Rattle.sparse.proofs.Firsts.{refuse-good, else-good, lowest-good, each-good}
+use Rattle.sparse.proofs.Firsts.{refuse-good, neither, else-good, lowest-good, each-good}
 
 -- a part from a to b of n elements
 pub record Within (a b n : ℕ) : Type 0 where
@@ -25,17 +25,12 @@ pub record Within (a b n : ℕ) : Type 0 where
 pub row-in : {rows entries i : ℕ} {ptrs : List ℕ} → Cut rows entries ptrs → i < rows → Within (getD ptrs i 0) (getD ptrs (i + 1) 0) entries
 row-in {i = i} h l = record { rises = h .rises i l; fits = h .within i l }
 
--- neither of two holds
-or-none : (a b : Bool) → a || b ≡ false → (a ≡ false) × (b ≡ false)
-or-none true b e = absurd (true≢false e)
-or-none false b e = (refl, e)
-
 -- 2 finds nothing
 pub few-rows : (limit rows cols entries : ℕ) → sizeTest limit rows cols entries ≡ Good → rows ≤ 1024
 unfolding sizeTest
 few-rows limit rows cols entries e =
-    let h = or-none _ _ (refuse-good _ _ e) in
-    ltb-false 1024 rows (or-none (ltb 1024 rows) (ltb 1024 cols) (h .0) .0)
+    let h = neither _ _ (refuse-good _ _ e) in
+    ltb-false 1024 rows (neither (ltb 1024 rows) (ltb 1024 cols) (h .0) .0)
 
 -- 3 finds nothing
 pub record Shaped (m : Matrix) : Type 0 where
@@ -47,9 +42,9 @@ pub record Shaped (m : Matrix) : Type 0 where
 pub shaped : (m : Matrix) → shapeTest m ≡ Good → Shaped m
 unfolding shapeTest
 shaped m e =
-    let last = or-none _ _ (refuse-good _ _ e) in
-    let first = or-none _ _ (last .0) in
-    let h = or-none _ _ (first .0) in
+    let last = neither _ _ (refuse-good _ _ e) in
+    let first = neither _ _ (last .0) in
+    let h = neither _ _ (first .0) in
     record {
       col-each = eqb-true _ _ (not-false _ (h .0));
       many = eqb-true _ _ (not-false _ (h .1));
@@ -64,9 +59,7 @@ pointers m e = record { many = shaped m e .many }
 row-within : (n : ℕ) (cols : List ℕ) (a b : ℕ) → rowTest n cols a b ≡ Good → Within a b (length cols)
 unfolding rowTest
 row-within n cols a b e =
-    let both = else-good _ _ e in
-    let g : refuse (ltb b a || ltb (length cols) b) Pointer ≡ Good = cc in
-    let h = or-none _ _ (refuse-good _ _ g) in
+    let h = neither _ _ (refuse-good _ _ (else-good _ _ e .0)) in
     record { rises = ltb-false b a (h .0); fits = ltb-false (length cols) b (h .1) }
 
 -- 3, 4 and 5 find nothing

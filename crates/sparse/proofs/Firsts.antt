@@ -7,7 +7,7 @@ use native.Mathlib.Numerals.{add-one}
 use native.Mathlib.Decide.{le-ind}
 use native.Mathlib.Omega.{arith}
 use mathlib.Core.Logic.{⊎-elim}
-use mathlib.Core.Bool.{Bool, true, false}
+use mathlib.Core.Bool.{Bool, true, false, _||_, true≢false}
 use mathlib.Core.List.{List, [], _∷_}
 use Rattle.sparse.specs.Refusals.{refuse, _else_, lowest, firstOf}
 use Rattle.sparse.specs.declared.Refusal.{Refusal}
@@ -26,11 +26,20 @@ unfolding _else_
 else-good Good t e = (refl, e)
 else-good (Refused r) t e = let z : _≡_ {A = ℕ} 0 1 = cc in absurd (omega arith)
 
--- a clause that doesn't refuse doesn't hold
+-- a clause that doesn't hold doesn't refuse, and the other way
+pub refuse-false : (b : Bool) (r : Refusal) → b ≡ false → refuse b r ≡ Good
+unfolding refuse
+refuse-false b r e = rw e
+
 pub refuse-good : (b : Bool) (r : Refusal) → refuse b r ≡ Good → b ≡ false
 unfolding refuse
 refuse-good true r e = let z : _≡_ {A = ℕ} 0 1 = cc in absurd (omega arith)
 refuse-good false r e = refl
+
+-- neither of two parts of a clause holds
+pub neither : (a b : Bool) → a || b ≡ false → (a ≡ false) × (b ≡ false)
+neither true b e = absurd (true≢false e)
+neither false b e = (refl, e)
 
 -- of a list that finds nothing, neither the first test does nor the rest
 pub lowest-good : (t : Tested) (ts : List Tested) → lowest (t ∷ ts) ≡ Good → (t ≡ Good) × (lowest ts ≡ Good)
@@ -51,6 +60,10 @@ lowest-next ts q e h = rw (← q, e) h
 pub lowest-last : {x t : Tested} → x ≡ t → x ≡ lowest (t ∷ [])
 unfolding lowest
 lowest-last q = q ∙ sym (else-none _)
+
+-- the same of the list alone
+pub lowest-skip : {t : Tested} (ts : List Tested) → t ≡ Good → lowest (t ∷ ts) ≡ lowest ts
+lowest-skip ts e = sym (lowest-next ts refl e refl)
 
 -- the first n find nothing exactly where each of them finds nothing
 pub each-good : (n : ℕ) (f : ℕ → Tested) → firstOf n f ≡ Good → (i : ℕ) → i < n → f i ≡ Good

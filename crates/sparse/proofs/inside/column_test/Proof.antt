@@ -1,8 +1,10 @@
 -- `column_test` meets its contract: each `return` goes by the tests before it.
 -- Assumes nothing.
+use Prim.Native.Nat.{_-_}
+use native.Mathlib.Omega.{arith}
+use lib.ListN.{getD}
 use borrow.Author.Needs.{needs}
 use borrow.Author.Tests.{le-leb, lt-leb, lt-ltb, le-ltb}
-use native.Mathlib.Omega.{arith}
 use Rattle.sparse.specs.Refusals.{refuse}
 use Rattle.sparse.specs.Tests.{columnTest}
 use Rattle.sparse.proofs.inside.column_test.Statement.{statement}
@@ -16,11 +18,15 @@ shared-slice-read-col c = search needs
 
 returns : tie.Need-returns
 unfolding columnTest refuse
-returns c = simp (le-leb _ _ (c .if1 .taken))
+returns c =
+    let a = c .before .before .args in
+    simp (le-leb (a .ncols) (getD (a .cols .now) (a .k) 0) (omega arith))
 
 returns-2 : tie.Need-returns-2
 unfolding columnTest refuse
-returns-2 c = simp (lt-leb _ _ (c .before .if1 .left), le-ltb 0 (c .before .before .before .args .k) (omega arith))
+returns-2 c =
+    let a = c .before .before .before .args in
+    simp (lt-leb (a .ncols) (getD (a .cols .now) (a .k) 0) (omega arith), le-ltb 0 (a .k) (omega arith))
 
 sub-if3 : tie.Need-sub-if3
 sub-if3 c = search needs
@@ -34,14 +40,14 @@ shared-slice-read-if3 c = search needs
 returns-3 : tie.Need-returns-3
 unfolding columnTest refuse
 returns-3 c =
-    let k = c .before .before .before .before .before .args .k in
-    simp (lt-leb _ _ (c .before .before .before .if1 .left), lt-ltb 0 k (omega arith), le-leb _ _ (c .if3 .taken))
+    let a = c .before .before .before .before .before .args in
+    simp (lt-leb (a .ncols) (getD (a .cols .now) (a .k) 0) (omega arith), lt-ltb 0 (a .k) (omega arith), le-leb (getD (a .cols .now) (a .k) 0) (getD (a .cols .now) (a .k - 1) 0) (omega arith))
 
 returns-4 : tie.Need-returns-4
 unfolding columnTest refuse
 returns-4 c =
-    let k = c .before .before .before .before .before .args .k in
-    simp (lt-leb _ _ (c .before .before .before .if1 .left), lt-ltb 0 k (omega arith), lt-leb _ _ (c .if3 .left))
+    let a = c .before .before .before .before .before .args in
+    simp (lt-leb (a .ncols) (getD (a .cols .now) (a .k) 0) (omega arith), lt-ltb 0 (a .k) (omega arith), lt-leb (getD (a .cols .now) (a .k) 0) (getD (a .cols .now) (a .k - 1) 0) (omega arith))
 
 pub column-test-spec : {M : Type 1} → statement M
 column-test-spec =

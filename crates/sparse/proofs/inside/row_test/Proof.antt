@@ -1,5 +1,7 @@
 -- `row_test` meets its contract: each `return` goes by the tests before it.
 -- Assumes nothing.
+use native.Mathlib.Omega.{arith}
+use lib.ListN.{length}
 use borrow.Author.Needs.{needs}
 use borrow.Author.Tests.{lt-ltb, le-ltb}
 use Rattle.sparse.specs.Matrix.{part}
@@ -10,11 +12,15 @@ use Rattle.sparse.proofs.inside.row_test.Tie as tie
 
 returns : tie.Need-returns
 unfolding rowTest refuse _else_
-returns c = simp (lt-ltb _ _ (c .if1 .taken))
+returns c =
+    let a = c .before .before .args in
+    simp (lt-ltb (a .stop) (a .start) (omega arith))
 
 returns-2 : tie.Need-returns-2
 unfolding rowTest refuse _else_
-returns-2 c = simp (le-ltb _ _ (c .before .if1 .left), lt-ltb _ _ (c .if2 .taken))
+returns-2 c =
+    let a = c .before .before .before .args in
+    simp (le-ltb (a .stop) (a .start) (omega arith), lt-ltb (length (a .col-idcs .now)) (a .stop) (omega arith))
 
 mul-columns-test : tie.Need-mul-columns-test
 mul-columns-test c = search needs
@@ -30,7 +36,9 @@ columns-test-requires c κs = search needs
 
 returns-3 : tie.Need-returns-3
 unfolding rowTest refuse _else_ part
-returns-3 c = simp (le-ltb _ _ (c .before .before .before .if1 .left), le-ltb _ _ (c .before .before .if2 .left)) (c .columns-test .ensures)
+returns-3 c =
+    let a = c .before .before .before .before .before .args in
+    simp (le-ltb (a .stop) (a .start) (omega arith), le-ltb (length (a .col-idcs .now)) (a .stop) (omega arith)) (c .columns-test .ensures)
 
 pub row-test-spec : {M : Type 1} → statement M
 row-test-spec =

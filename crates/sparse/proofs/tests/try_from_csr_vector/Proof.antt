@@ -2,6 +2,7 @@
 -- Assumes nothing.
 use mathlib.Core.Path.{_≡_, refl}
 use mathlib.Core.List.{List, _∷_}
+use native.Mathlib.Omega.{arith}
 use lib.ListN.{length}
 use borrow.Author.Needs.{needs}
 use borrow.Author.Tests.{eq-eqb, ne-eqb}
@@ -50,9 +51,10 @@ past-size c ts h =
 returns-3 : tie.Need-returns-3
 unfolding refuse
 returns-3 c =
+    let a = c .before .before .before .before .before .before .before .before .before .args in
     rw vector-tests
     (past-size (c .before) _
-    (lowest-stop _ (simp (ne-eqb _ _ (c .if1 .taken))) refl))
+    (lowest-stop _ (simp (ne-eqb (length (a .idcs .now)) (length (a .values .now)) (λ e. omega arith))) refl))
 
 columns-test-requires : tie.Need-columns-test-requires
 columns-test-requires c κs = search needs
@@ -63,9 +65,10 @@ enum-known-columns c = search needs
 returns-4 : tie.Need-returns-4
 unfolding refuse
 returns-4 c =
+    let a = c .before .before .before .before .before .before .before .before .before .before .before .before .before .args in
     rw vector-tests
     (past-size (c .before .before .before .before .before) _
-    (lowest-next _ (simp (eq-eqb _ _ (c .before .before .before .before .if1 .left))) refl
+    (lowest-next _ (simp (eq-eqb (length (a .idcs .now)) (length (a .values .now)) (omega (arith, c .before .before .before .before .if1)))) refl
     (lowest-stop _ (c .before .before .before .columns-test .ensures) (c .before .columns .given .1))))
 
 enum-told-3 : tie.Need-enum-told-3
@@ -77,9 +80,10 @@ values-test-requires c κs = search needs
 returns-5 : tie.Need-returns-5
 unfolding refuse
 returns-5 c =
+    let a = c .before .before .before .before .before .before .before .before .before .before .before .before .before .args in
     rw vector-tests
     (past-size (c .before .before .before .before .before) _
-    (lowest-next _ (simp (eq-eqb _ _ (c .before .before .before .before .if1 .left))) refl
+    (lowest-next _ (simp (eq-eqb (length (a .idcs .now)) (length (a .values .now)) (omega (arith, c .before .before .before .before .if1)))) refl
     (lowest-next _ (c .before .before .before .columns-test .ensures) (c .before .enum-told3 .given .1) (lowest-last (c .values-test .ensures)))))
 
 pub try-from-csr-vector-spec : {M : Type 1} → statement M

@@ -1,0 +1,10 @@
+pub mod BuiltForm
+pub mod BuiltMatrix
+pub mod Exactly
+pub mod Kept
+pub mod Numbers
+pub mod Parts
+pub mod Promises
+pub mod RowLists
+pub mod TripletNumbers
+pub mod Values

@@ -1,0 +1,1 @@
+// Laws only: what the tests and compressed rows mean. No code.

@@ -1,0 +1,5 @@
+pub mod Orders
+pub mod Passed
+pub mod Pointers
+pub mod Starts
+pub mod TripletLists
