@@ -4,5 +4,6 @@ pub mod Find
 pub mod Mods
 pub mod Only
 pub mod Ontos
+pub mod Pigeons
 pub mod Sums
 pub mod Tables

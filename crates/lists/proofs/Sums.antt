@@ -3,7 +3,7 @@
 use mathlib.Core.Path.{_≡_, refl, sym, ap, _∙_}
 use Prim.Native.Nat.{ℕ, zero, suc, _+_, _*_, _%_, _≤_, _<_}
 use native.Mathlib.Nat.{le-refl, not-suc-le-zero, add-zero, zero-add, mul-add, mul-zero, add-assoc, add-comm, add-left-comm, add-suc, add-mod, mod-mod, mod-add-mod, add-mod-mod}
-use native.Mathlib.Decide.{decLt}
+use native.Mathlib.Decide.{decLt, ℕ-discrete}
 use native.Mathlib.Omega.{arith}
 use mathlib.Core.Bool.{Bool, true, false, cond}
 use lib.Dec.{eqb}
@@ -81,3 +81,18 @@ sum-mod (suc n) p f =
 -- terms that leave the same leave the same in sum
 pub sum-same : (n p : ℕ) (f g : ℕ → ℕ) → ((i : ℕ) → i < n → f i % p ≡ g i % p) → Σ n f % p ≡ Σ n g % p
 sum-same n p f g h = sym (sum-mod n p f) ∙ ap (λ (x : ℕ). x % p) (sum-ext n (λ i. f i % p) (λ i. g i % p) h) ∙ sum-mod n p g
+
+-- one term alone, the others leaving 0
+pub sum-one-mod : (n k p : ℕ) (f : ℕ → ℕ) → k < n → ((i : ℕ) → i < n → (i ≡ k → ⊥) → f i % p ≡ 0 % p) → Σ n f % p ≡ f k % p
+sum-one-mod n k p f h others =
+    sum-same n p f g same ∙ ap (λ (x : ℕ). x % p) (sum-one n k g h (λ i l ne. rw (ne-eqb i k ne)) ∙ rw (eq-eqb k k refl))
+  where
+    g : ℕ → ℕ
+    g i = cond (eqb i k) (f i) 0
+
+    same : (i : ℕ) → i < n → f i % p ≡ cond (eqb i k) (f i) 0 % p
+    same i l = go (ℕ-discrete i k)
+      where
+        go : Dec (i ≡ k) → f i % p ≡ cond (eqb i k) (f i) 0 % p
+        go (yes e) = rw (eq-eqb i k e)
+        go (no ne) = rw (ne-eqb i k ne) (others i l ne)
