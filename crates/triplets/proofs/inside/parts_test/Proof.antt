@@ -3,8 +3,8 @@
 use borrow.Author.Tests.{eq-eqb, ne-eqb}
 use Rattle.sparse.specs.Refusals.{refuse}
 use Rattle.triplets.specs.Triplets.{partsTest}
-use Rattle.triplets.proofs.parts_test.Statement.{statement}
-use Rattle.triplets.proofs.parts_test.Tie as tie
+use Rattle.triplets.proofs.inside.parts_test.Statement.{statement}
+use Rattle.triplets.proofs.inside.parts_test.Tie as tie
 
 returns : tie.Need-returns
 unfolding partsTest refuse

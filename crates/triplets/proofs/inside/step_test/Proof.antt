@@ -7,8 +7,8 @@ use borrow.Author.Tests.{lt-ltb, le-ltb, eq-eqb, ne-eqb}
 use borrow.Author.Needs.{needs}
 use Rattle.sparse.specs.Refusals.{refuse}
 use Rattle.triplets.proofs.Orders.{step-parts}
-use Rattle.triplets.proofs.step_test.Statement.{statement}
-use Rattle.triplets.proofs.step_test.Tie as tie
+use Rattle.triplets.proofs.inside.step_test.Statement.{statement}
+use Rattle.triplets.proofs.inside.step_test.Tie as tie
 
 returns : tie.Need-returns
 unfolding refuse

@@ -10,8 +10,8 @@ use Rattle.lists.specs.Table.{table}
 use Rattle.triplets.specs.Triplets.{startOf}
 use Rattle.triplets.proofs.Pointers.{pointers-first, pointers-more, pointers-all}
 use Rattle.triplets.proofs.Starts.{start-zero}
-use Rattle.triplets.proofs.write_pointers.Statement.{statement}
-use Rattle.triplets.proofs.write_pointers.Tie as tie
+use Rattle.triplets.proofs.inside.write_pointers.Statement.{statement}
+use Rattle.triplets.proofs.inside.write_pointers.Tie as tie
 
 abbrev Inv-loop : tie.InvT-loop
 Inv-loop nrows rows row-ptrs₀ start₀ row₀ row-ptrs start row = (row ≤ nrows) × (start ≡ startOf rows row) × (row-ptrs ≡ table (row + 1) (startOf rows) onto row-ptrs₀) × (length row-ptrs ≡ length row-ptrs₀)

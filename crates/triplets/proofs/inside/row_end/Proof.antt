@@ -6,8 +6,8 @@ use borrow.Author.Count.{below-more}
 use borrow.Author.Needs.{needs}
 use lib.ListN.{length, getD}
 use Rattle.triplets.proofs.Starts.{start-below, start-within, start-is}
-use Rattle.triplets.proofs.row_end.Statement.{statement}
-use Rattle.triplets.proofs.row_end.Tie as tie
+use Rattle.triplets.proofs.inside.row_end.Statement.{statement}
+use Rattle.triplets.proofs.inside.row_end.Tie as tie
 
 abbrev Inv-loop : tie.InvT-loop
 Inv-loop rows start row stop₀ stop = (stop ≤ length rows) × ((k : ℕ) → k < stop → getD rows k 0 < row + 1)

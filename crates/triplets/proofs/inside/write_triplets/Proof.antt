@@ -3,8 +3,8 @@
 use mathlib.Core.Path.{sym}
 use borrow.Author.Needs.{needs}
 use Rattle.triplets.proofs.Passed.{written-parts}
-use Rattle.triplets.proofs.write_triplets.Statement.{statement}
-use Rattle.triplets.proofs.write_triplets.Tie as tie
+use Rattle.triplets.proofs.inside.write_triplets.Statement.{statement}
+use Rattle.triplets.proofs.inside.write_triplets.Tie as tie
 
 write-pointers-requires : tie.Need-write-pointers-requires
 write-pointers-requires c κs = search needs

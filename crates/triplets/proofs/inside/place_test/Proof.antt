@@ -4,8 +4,8 @@ use native.Mathlib.Omega.{arith}
 use borrow.Author.Tests.{le-leb, lt-leb}
 use Rattle.sparse.specs.Refusals.{refuse}
 use Rattle.triplets.specs.Triplets.{placeTest}
-use Rattle.triplets.proofs.place_test.Statement.{statement}
-use Rattle.triplets.proofs.place_test.Tie as tie
+use Rattle.triplets.proofs.inside.place_test.Statement.{statement}
+use Rattle.triplets.proofs.inside.place_test.Tie as tie
 
 returns : tie.Need-returns
 unfolding placeTest refuse

@@ -6,8 +6,8 @@ use lib.ListN.{length}
 use Rattle.triplets.specs.Triplets.{triplets, stepTest, orderTest}
 use Rattle.sparse.proofs.Firsts.{Past, past-none, past-next, past-stop, past-all}
 use Rattle.triplets.proofs.TripletLists.{length-triplets}
-use Rattle.triplets.proofs.order_test.Statement.{statement}
-use Rattle.triplets.proofs.order_test.Tie as tie
+use Rattle.triplets.proofs.inside.order_test.Statement.{statement}
+use Rattle.triplets.proofs.inside.order_test.Tie as tie
 
 abbrev Inv-loop : tie.InvT-loop
 Inv-loop rows cols vals k₀ k = Past (length vals) (stepTest (triplets rows cols vals)) k

@@ -10,8 +10,8 @@ use Rattle.sparse.specs.declared.Tested.the-variants.{Good}
 use Rattle.sparse.specs.declared.inside.Clause.the-variants.{Residue}
 use Rattle.sparse.proofs.Firsts.{else-none}
 use Rattle.triplets.proofs.Passed.{parts-of}
-use Rattle.triplets.proofs.triplets_test.Statement.{statement}
-use Rattle.triplets.proofs.triplets_test.Tie as tie
+use Rattle.triplets.proofs.inside.triplets_test.Statement.{statement}
+use Rattle.triplets.proofs.inside.triplets_test.Tie as tie
 
 -- each test that is passed was good
 modulus-good : (c : tie.After-enum-told) → let a = c .before .before .before .before .before .before .args in modulusTest (a .p) ≡ Good

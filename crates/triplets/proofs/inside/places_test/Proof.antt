@@ -6,8 +6,8 @@ use lib.ListN.{length}
 use Rattle.triplets.specs.Triplets.{triplets, at, placeTest, placesTest}
 use Rattle.sparse.proofs.Firsts.{Past, past-none, past-next, past-stop, past-all}
 use Rattle.triplets.proofs.TripletLists.{length-triplets, at-triplets}
-use Rattle.triplets.proofs.places_test.Statement.{statement}
-use Rattle.triplets.proofs.places_test.Tie as tie
+use Rattle.triplets.proofs.inside.places_test.Statement.{statement}
+use Rattle.triplets.proofs.inside.places_test.Tie as tie
 
 abbrev Inv-loop : tie.InvT-loop
 Inv-loop nrows ncols rows cols vals k₀ k = Past (length vals) (λ i. placeTest nrows ncols (at (triplets rows cols vals) i)) k
