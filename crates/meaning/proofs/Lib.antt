@@ -1,5 +1,6 @@
 pub mod BuiltForm
 pub mod BuiltMatrix
+pub mod CleanRows
 pub mod Exactly
 pub mod Kept
 pub mod Numbers

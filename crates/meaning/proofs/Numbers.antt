@@ -66,7 +66,7 @@ module _ (m : Matrix) (same : length (m .col-idcs) ≡ length (m .values)) where
   row-good i e = ⊎-elim (λ x. absurd (never (sym (x .1)))) (λ x. (x .0, columns-good (m .ncols) (row (m .row-ptrs) (m .col-idcs) i) (x .1))) (row-cases i Good e)
 
   -- where no row refuses, none is bad
-  no-row : rowsTest (m .nrows) (m .ncols) (m .row-ptrs) (m .col-idcs) ≡ Good → (i : ℕ) → i < m .nrows → (BadPointer m i → ⊥) × (BadRow m i → ⊥)
+  pub no-row : rowsTest (m .nrows) (m .ncols) (m .row-ptrs) (m .col-idcs) ≡ Good → (i : ℕ) → i < m .nrows → (BadPointer m i → ⊥) × (BadRow m i → ⊥)
   unfolding rowsTest
   no-row e i l = row-good i (each-good (m .nrows) ofRow e i l)
 

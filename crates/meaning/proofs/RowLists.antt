@@ -7,13 +7,13 @@ use native.Mathlib.Nat.{le-refl, add-sub-cancel-left}
 use native.Mathlib.Numerals.{add-one}
 use native.Mathlib.Omega.{arith}
 use lib.ListN.{length, getD, take, drop, length-append, length-map, List·getD-map}
-use lib.Seq.{length-take-le, take-suc, split-at, take-length, take-append-seam, drop-append-seam}
+use lib.Seq.{ext-getD, length-take-le, take-suc, split-at, take-length, take-append-seam, drop-append-seam}
 use Rattle.lists.specs.Table.{table}
 use Rattle.lists.proofs.Tables.{length-table, getD-table, table-getD, table-ext, take-table, map-table}
 use Rattle.sparse.specs.Matrix.{Matrix, matrix, part, row}
 use Rattle.sparse.specs.Rows.{Entry, entry, entries, rowsOf, offset, compressed}
 use Rattle.sparse.proofs.Cuts.{Laid}
-use Rattle.meaning.proofs.Parts.{take-part}
+use Rattle.meaning.proofs.Parts.{length-part, getD-part, take-part}
 
 -- rows joined are their entries joined
 pub flatten-append : {A : Type 0} (xs ys : List (List A)) → flatten (xs ++ ys) ≡ flatten xs ++ flatten ys
@@ -132,3 +132,25 @@ rows-compressed n rs =
   where
     ptrs : List ℕ
     ptrs = table (length rs + 1) (offset rs)
+
+-- the entries of a part are the part of the entries
+pub part-entries : (a b : ℕ) (cols vals : List ℕ) → length cols ≡ length vals → b ≤ length vals → entries (part a b cols) (part a b vals) ≡ part a b (entries cols vals)
+unfolding entries
+part-entries a b cols vals same h = ext-getD (entry 0 0) (entries (part a b cols) (part a b vals)) (part a b (entries cols vals)) long each
+  where
+    size : length (part a b vals) ≡ b - a
+    size = length-part a b vals h
+
+    whole : length (part a b (entries cols vals)) ≡ b - a
+    whole = length-part a b (entries cols vals) (rw length-entries h)
+
+    long : length (entries (part a b cols) (part a b vals)) ≡ length (part a b (entries cols vals))
+    long = length-entries (part a b cols) (part a b vals) ∙ size ∙ sym whole
+
+    each : (k : ℕ) → k < length (entries (part a b cols) (part a b vals)) → getD (entries (part a b cols) (part a b vals)) k (entry 0 0) ≡ getD (part a b (entries cols vals)) k (entry 0 0)
+    each k l =
+        let below : k < b - a = omega (arith, long, whole) in
+        getD-table (length (part a b vals)) (λ i. entry (getD (part a b cols) i 0) (getD (part a b vals) i 0)) k (entry 0 0) (omega (arith, size))
+        ∙ (λ i. entry (getD-part a b cols k 0 below i) (getD-part a b vals k 0 below i))
+        ∙ sym (getD-table (length vals) (λ i. entry (getD cols i 0) (getD vals i 0)) (a + k) (entry 0 0) (omega arith))
+        ∙ sym (getD-part a b (entries cols vals) k (entry 0 0) below)

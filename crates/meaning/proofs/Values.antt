@@ -14,16 +14,14 @@ use lib.ListN.{length, getD}
 use Rattle.lists.specs.Sum.{Σ}
 use Rattle.lists.proofs.Sums.{sum-one, sum-zero, sum-first}
 use Rattle.sparse.specs.Matrix.{valueIn}
-use Rattle.sparse.specs.Tests.{columnsTest}
-use Rattle.sparse.specs.declared.Tested.the-variants.{Good}
-use Rattle.meaning.proofs.Numbers.{columns-good}
+use Rattle.meaning.specs.Clauses.{BadColumn}
 
 -- the columns of a good row: below n, each above all before it
 pub record Climbs (n : ℕ) (cols : List ℕ) : Type 0 where
   pub below : (k : ℕ) → k < length cols → getD cols k 0 < n
   pub rises : (i k : ℕ) → i < k → k < length cols → getD cols i 0 < getD cols k 0
 
-pub columns-climb : (n : ℕ) (cols : List ℕ) → columnsTest n cols ≡ Good → Climbs n cols
+pub columns-climb : (n : ℕ) (cols : List ℕ) → (BadColumn n cols → ⊥) → Climbs n cols
 columns-climb n cols e = record { below = low; rises = up }
   where
     low : (k : ℕ) → k < length cols → getD cols k 0 < n
@@ -31,7 +29,7 @@ columns-climb n cols e = record { below = low; rises = up }
       where
         go : Dec (getD cols k 0 < n) → getD cols k 0 < n
         go (yes l) = l
-        go (no l) = let g : n ≤ getD cols k 0 = omega arith in absurd (columns-good n cols e (record { place = k; within = h; such = inl g }))
+        go (no l) = let g : n ≤ getD cols k 0 = omega arith in absurd (e (record { place = k; within = h; such = inl g }))
 
     step : (k : ℕ) → suc k < length cols → getD cols k 0 < getD cols (suc k) 0
     step k h = go (decLt (getD cols k 0) (getD cols (suc k) 0))
@@ -42,7 +40,7 @@ columns-climb n cols e = record { below = low; rises = up }
             let one-back : suc k - 1 ≡ k = omega arith in
             let g : getD cols (suc k) 0 ≤ getD cols (suc k - 1) 0 = rw one-back (let f : getD cols (suc k) 0 ≤ getD cols k 0 = omega arith in f) in
             let pos : 0 < suc k = omega arith in
-            absurd (columns-good n cols e (record { place = suc k; within = h; such = inr (pos, g) }))
+            absurd (e (record { place = suc k; within = h; such = inr (pos, g) }))
 
     up : (i k : ℕ) → i < k → k < length cols → getD cols i 0 < getD cols k 0
     up i zero l h = absurd (not-suc-le-zero l)

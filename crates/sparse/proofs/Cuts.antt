@@ -87,5 +87,9 @@ formed-laid limit p m e =
     let h = lowest-good _ _ (lowest-good _ _ (lowest-good _ _ (lowest-good _ _ e .1) .1) .0) in
     laid m (h .0) (lowest-good _ _ (h .1) .0)
 
+pub formed-rows : (limit p : ℕ) (m : Matrix) → wellFormed limit p m ≡ Good → rowsTest (m .nrows) (m .ncols) (m .row-ptrs) (m .col-idcs) ≡ Good
+unfolding wellFormed matrixTest
+formed-rows limit p m e = lowest-good _ _ (lowest-good _ _ (lowest-good _ _ (lowest-good _ _ (lowest-good _ _ e .1) .1) .0) .1) .0
+
 pub formed-cut : (limit p : ℕ) (m : Matrix) → wellFormed limit p m ≡ Good → Cut (m .nrows) (length (m .values)) (m .row-ptrs)
 formed-cut limit p m e = formed-laid limit p m e .rows
