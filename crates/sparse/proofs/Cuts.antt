@@ -12,7 +12,7 @@ use Rattle.sparse.specs.Asks.{Pointers, Cut}
 use Rattle.sparse.specs.Matrix.{Matrix}
 use Rattle.sparse.specs.Refusals.{refuse}
 use Rattle.sparse.specs.Tests.{sizeTest, shapeTest, rowTest, rowsTest, matrixTest, wellFormed}
-use Rattle.sparse.specs.declared.Refusal.the-variants.{Pointer}
+use Rattle.sparse.specs.declared.Refusal.the-variants.{Size}
 use Rattle.sparse.specs.declared.Tested.the-variants.{Good}
 use Rattle.sparse.proofs.Firsts.{refuse-good, neither, else-good, lowest-good, each-good}
 
@@ -26,11 +26,20 @@ pub row-in : {rows entries i : ℕ} {ptrs : List ℕ} → Cut rows entries ptrs 
 row-in {i = i} h l = record { rises = h .rises i l; fits = h .within i l }
 
 -- 2 finds nothing
-pub few-rows : (limit rows cols entries : ℕ) → sizeTest limit rows cols entries ≡ Good → rows ≤ 1024
+pub record Small (limit rows cols entries : ℕ) : Type 0 where
+  pub high : rows ≤ 1024
+  pub wide : cols ≤ 1024
+  pub few : entries ≤ limit
+
+pub small : (limit rows cols entries : ℕ) → sizeTest limit rows cols entries ≡ Good → Small limit rows cols entries
 unfolding sizeTest
-few-rows limit rows cols entries e =
-    let h = neither _ _ (refuse-good _ _ e) in
-    ltb-false 1024 rows (neither (ltb 1024 rows) (ltb 1024 cols) (h .0) .0)
+small limit rows cols entries e =
+    let h = neither _ (ltb limit entries) (refuse-good _ Size e) in
+    let sides = neither (ltb 1024 rows) (ltb 1024 cols) (h .0) in
+    record { high = ltb-false _ _ (sides .0); wide = ltb-false _ _ (sides .1); few = ltb-false _ _ (h .1) }
+
+pub few-rows : (limit rows cols entries : ℕ) → sizeTest limit rows cols entries ≡ Good → rows ≤ 1024
+few-rows limit rows cols entries e = small limit rows cols entries e .high
 
 -- 3 finds nothing
 pub record Shaped (m : Matrix) : Type 0 where

@@ -1,0 +1,4 @@
+pub mod Asks
+pub mod Decimals
+pub mod Mma
+pub mod Writers
