@@ -19,7 +19,7 @@ use Rattle.sparse.proofs.Firsts.{lowest-good}
 use Rattle.meaning.proofs.Numbers.{no-row, clean-none}
 use Rattle.meaning.proofs.Parts.{length-part, getD-part}
 use Rattle.meaning.proofs.RowLists.{compressed-rows, part-entries}
-use Rattle.meaning.proofs.Values.{Climbs, columns-climb, Clean, clean-unique}
+use Rattle.meaning.proofs.Values.{Climbs, no-bad-climbs, Clean, clean-unique}
 
 module _ (limit p : ℕ) (m : Matrix) (good : clean limit p m ≡ Good) where
   formed : wellFormed limit p m ≡ Good
@@ -33,7 +33,7 @@ module _ (limit p : ℕ) (m : Matrix) (good : clean limit p m ≡ Good) where
   pub clean-row : (i : ℕ) → i < m .nrows → Clean (m .ncols) (row (m .row-ptrs) (m .col-idcs) i) (row (m .row-ptrs) (m .values) i)
   unfolding row number
   clean-row i h = record {
-    climbs = columns-climb (m .ncols) (row (m .row-ptrs) (m .col-idcs) i) (no-row m (clean-laid .shape .col-each) (formed-rows limit p m formed) i h .1);
+    climbs = no-bad-climbs (m .ncols) (row (m .row-ptrs) (m .col-idcs) i) (no-row m (clean-laid .shape .col-each) (formed-rows limit p m formed) i h .1);
     many = length-part a b (m .col-idcs) (omega (arith, clean-laid .shape .col-each, fits)) ∙ sym long;
     stored = λ k l z.
         let short : k < b - a = omega (arith, long) in

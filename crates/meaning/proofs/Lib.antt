@@ -6,6 +6,7 @@ pub mod Kept
 pub mod Numbers
 pub mod Parts
 pub mod Promises
+pub mod RowColumns
 pub mod RowLists
 pub mod TripletNumbers
 pub mod Values

@@ -14,15 +14,18 @@ use lib.ListN.{length, getD}
 use Rattle.lists.specs.Sum.{Σ}
 use Rattle.lists.proofs.Sums.{sum-one, sum-zero, sum-first}
 use Rattle.sparse.specs.Matrix.{valueIn}
+use Rattle.sparse.specs.Tests.{columnsTest}
+use Rattle.sparse.specs.declared.Tested.the-variants.{Good}
 use Rattle.meaning.specs.Clauses.{BadColumn}
+use Rattle.meaning.proofs.Numbers.{columns-good}
 
 -- the columns of a good row: below n, each above all before it
 pub record Climbs (n : ℕ) (cols : List ℕ) : Type 0 where
   pub below : (k : ℕ) → k < length cols → getD cols k 0 < n
   pub rises : (i k : ℕ) → i < k → k < length cols → getD cols i 0 < getD cols k 0
 
-pub columns-climb : (n : ℕ) (cols : List ℕ) → (BadColumn n cols → ⊥) → Climbs n cols
-columns-climb n cols e = record { below = low; rises = up }
+pub no-bad-climbs : (n : ℕ) (cols : List ℕ) → (BadColumn n cols → ⊥) → Climbs n cols
+no-bad-climbs n cols e = record { below = low; rises = up }
   where
     low : (k : ℕ) → k < length cols → getD cols k 0 < n
     low k h = go (decLt (getD cols k 0) n)
@@ -49,6 +52,10 @@ columns-climb n cols e = record { below = low; rises = up }
         go : Dec (i < k) → (i < k → k < length cols → getD cols i 0 < getD cols k 0) → getD cols i 0 < getD cols (suc k) 0
         go (yes b) ih = let a : getD cols i 0 < getD cols k 0 = ih b (omega arith) in omega (arith, step k h)
         go (no b) ih = let same : i ≡ k = omega arith in rw same (step k h)
+
+-- so 5 that finds nothing says
+pub columns-climb : (n : ℕ) (cols : List ℕ) → columnsTest n cols ≡ Good → Climbs n cols
+columns-climb n cols e = no-bad-climbs n cols (columns-good n cols e)
 
 -- an entry's value lies at its column
 pub value-there : (n : ℕ) (cols vals : List ℕ) → Climbs n cols → (k : ℕ) → k < length cols → valueIn cols vals (getD cols k 0) ≡ getD vals k 0

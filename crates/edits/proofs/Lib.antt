@@ -1,0 +1,14 @@
+pub mod Appends
+pub mod Columns
+pub mod Cursors
+pub mod JoinLaws
+pub mod JoinSizes
+pub mod JoinTests
+pub mod Joined
+pub mod Lowests
+pub mod Promises
+pub mod Puts
+pub mod Puttings
+pub mod RowLoops
+pub mod RowPuts
+pub mod Writing

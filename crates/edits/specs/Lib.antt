@@ -1,0 +1,4 @@
+pub mod Asks
+pub mod JoinParts
+pub mod Joins
+pub mod Puts
