@@ -53,17 +53,26 @@ append-row k a b i h = row-of-rows k (rowsOf a ++ rowsOf b) i ∙ either-at (a .
 abbrev pub valueOf : List Entry → ℕ → ℕ
 valueOf es j = valueIn (map (λ e. e .col) es) (map (λ e. e .value) es) j
 
--- a value of a matrix, by the entries of its row
-pub value-row : (m : Matrix) (i j : ℕ) → i < m .nrows → length (m .col-idcs) ≡ length (m .values) → getD (m .row-ptrs) (i + 1) 0 ≤ length (m .values) → valueAt m i j ≡ valueOf (rowAt m i) j
-unfolding valueAt row
-value-row m i j h same within =
+-- the columns and the values of row i are those of its entries
+pub record RowParts (m : Matrix) (i : ℕ) : Type 0 where
+  pub cols : part (getD (m .row-ptrs) i 0) (getD (m .row-ptrs) (i + 1) 0) (m .col-idcs) ≡ map (λ e. e .col) (rowAt m i)
+  pub vals : part (getD (m .row-ptrs) i 0) (getD (m .row-ptrs) (i + 1) 0) (m .values) ≡ map (λ e. e .value) (rowAt m i)
+
+pub row-parts : (m : Matrix) (i : ℕ) → i < m .nrows → length (m .col-idcs) ≡ length (m .values) → getD (m .row-ptrs) (i + 1) 0 ≤ length (m .values) → RowParts m i
+unfolding row
+row-parts m i h same within =
     let x : ℕ = getD (m .row-ptrs) i 0 in
     let y : ℕ = getD (m .row-ptrs) (i + 1) 0 in
     let cs : List ℕ = part x y (m .col-idcs) in
     let vs : List ℕ = part x y (m .values) in
     let long : length cs ≡ length vs = length-part x y (m .col-idcs) (omega (arith, same)) ∙ sym (length-part x y (m .values) within) in
-    ap₂ (λ (c v : List ℕ). valueIn c v j) (sym (entry-cols cs vs long)) (sym (entry-values cs vs))
-    ∙ ap (λ (es : List Entry). valueOf es j) (part-entries x y (m .col-idcs) (m .values) same within ∙ sym (row-at m i h))
+    let here : entries cs vs ≡ rowAt m i = part-entries x y (m .col-idcs) (m .values) same within ∙ sym (row-at m i h) in
+    record { cols = sym (entry-cols cs vs long) ∙ ap (map (λ (e : Entry). e .col)) here; vals = sym (entry-values cs vs) ∙ ap (map (λ (e : Entry). e .value)) here }
+
+-- a value of a matrix, by the entries of its row
+pub value-row : (m : Matrix) (i j : ℕ) → i < m .nrows → length (m .col-idcs) ≡ length (m .values) → getD (m .row-ptrs) (i + 1) 0 ≤ length (m .values) → valueAt m i j ≡ valueOf (rowAt m i) j
+unfolding valueAt row
+value-row m i j h same within = let r = row-parts m i h same within in ap₂ (λ (c v : List ℕ). valueIn c v j) (r .cols) (r .vals)
 
 -- a value of the matrix that is written
 pub value-written : (n : ℕ) (rs : List (List Entry)) (i j : ℕ) → i < length rs → valueAt (compressed n rs) i j ≡ valueOf (getD rs i []) j

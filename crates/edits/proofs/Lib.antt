@@ -1,6 +1,7 @@
 pub mod Appends
 pub mod Columns
 pub mod Cursors
+pub mod JoinForms
 pub mod JoinLaws
 pub mod JoinSizes
 pub mod JoinTests
