@@ -1,0 +1,5 @@
+pub mod Identities
+pub mod LastRows
+pub mod PivotTables
+pub mod Promises
+pub mod Scans
