@@ -9,7 +9,7 @@ ghost use Rattle.lists.specs.Table.{table};
 ghost use Rattle.sparse.specs.Lent.{lent, outcome};
 ghost use Rattle.sparse.specs.Matrix.{matrix, row};
 ghost use Rattle.sparse.specs.Put.{putRows};
-ghost use Rattle.sparse.specs.Refusals.{number, lowest};
+ghost use Rattle.sparse.specs.Refusals.{lowest};
 ghost use Rattle.sparse.specs.Rows.{entry, entries};
 ghost use Rattle.edits.specs.Asks.{RowPut, OnesFit, Adds, Cursor, ColumnRow, ColumnFits, EitherRow, RowsFit};
 ghost use Rattle.edits.specs.JoinParts.{sizesTests, formsTests, inColumn, bothTests, either, rowsIn};
@@ -25,6 +25,7 @@ use sparse::inside::Clause;
 use sparse::inside::columns_test;
 use sparse::inside::matrix_test;
 use sparse::inside::modulus_test;
+use sparse::inside::number_of;
 use sparse::inside::room_test;
 use sparse::inside::rows_test;
 use sparse::inside::rows_values_test;
@@ -559,29 +560,6 @@ fn lower_of(first: Tested, second: Tested) -> Tested
         return Tested::Refused(one);
     }
     Tested::Refused(two)
-}
-
-// The table's number of a refusal.
-fn number_of(why: Refusal) -> u32
-    ensures { λ r. ⌜ r ≡ number why ⌝ }
-{
-    match why {
-        Refusal::Modulus => 1,
-        Refusal::Size => 2,
-        Refusal::Shape => 3,
-        Refusal::Pointer => 4,
-        Refusal::Column => 5,
-        Refusal::Value => 6,
-        Refusal::Zero => 7,
-        Refusal::Outside => 8,
-        Refusal::Order => 9,
-        Refusal::NotSquare => 10,
-        Refusal::Mismatch => 11,
-        Refusal::Positions => 12,
-        Refusal::State => 13,
-        Refusal::Room => 14,
-        Refusal::Text => 15,
-    }
 }
 
 // Writes the rows of one matrix, then those of another.

@@ -7,6 +7,7 @@ ghost use Rattle.lists.specs.Onto.{_onto_};
 ghost use Rattle.sparse.specs.Asks.{Pointers, Cut};
 ghost use Rattle.sparse.specs.Lent.{lent, roomTest};
 ghost use Rattle.sparse.specs.Matrix.{matrix};
+ghost use Rattle.sparse.specs.Refusals.{number};
 ghost use Rattle.sparse.specs.Tests.{modulusTest, sizeTest, shapeTest, columnTest, columnsTest, rowTest, rowsTest, valueTest, valuesTest, rowsValuesTest, matrixTest, wellFormed, clean};
 use crate::MAX_SIDE;
 use crate::Refusal;
@@ -291,5 +292,28 @@ pub fn copy(src: &[u32], dst: &mut [u32])
     while i < src.len() {
         dst[i] = src[i];
         i += 1;
+    }
+}
+
+// The table's number of a refusal.
+pub fn number_of(why: Refusal) -> u32
+    ensures { λ r. ⌜ r ≡ number why ⌝ }
+{
+    match why {
+        Refusal::Modulus => 1,
+        Refusal::Size => 2,
+        Refusal::Shape => 3,
+        Refusal::Pointer => 4,
+        Refusal::Column => 5,
+        Refusal::Value => 6,
+        Refusal::Zero => 7,
+        Refusal::Outside => 8,
+        Refusal::Order => 9,
+        Refusal::NotSquare => 10,
+        Refusal::Mismatch => 11,
+        Refusal::Positions => 12,
+        Refusal::State => 13,
+        Refusal::Room => 14,
+        Refusal::Text => 15,
     }
 }

@@ -1,9 +1,9 @@
 -- `number_of` meets its contract, variant by variant.
 -- Assumes nothing.
 use Rattle.sparse.specs.Refusals.{number}
 use borrow.Author.Needs.{needs}
-use Rattle.edits.proofs.joins.number_of.Statement.{statement}
-use Rattle.edits.proofs.joins.number_of.Tie as tie
+use Rattle.sparse.proofs.inside.number_of.Statement.{statement}
+use Rattle.sparse.proofs.inside.number_of.Tie as tie
 
 enum-told : tie.Need-enum-told
 enum-told c = search needs
