@@ -4,7 +4,7 @@ use mathlib.Core.Path.{_≡_, refl, sym, ap, _∙_}
 use mathlib.Core.Logic.{_⊎_, inl, inr, ⊎-elim}
 use mathlib.Core.Bool.{Bool, true, false, or-true, true≢false}
 use Prim.Native.Nat.{ℕ, zero, suc, _≤_, _<_, zero-le, suc-le-suc}
-use native.Mathlib.Decide.{ℕ-discrete}
+use native.Mathlib.Decide.{decLt, ℕ-discrete}
 use native.Mathlib.Omega.{arith}
 use Rattle.lists.specs.Find.{any, least}
 
@@ -62,3 +62,35 @@ least-found (suc n) f (suc i) h e =
 pub least-only : (n : ℕ) (f : ℕ → Bool) (i : ℕ) → i < n → f i ≡ true → ((j : ℕ) → j < n → f j ≡ true → j ≡ i) → least n f ≡ i
 least-only n f i h e only =
     let s = least-found n f i h e in only (least n f) (omega arith) (s .1)
+
+-- i passes, and none before it
+pub least-first : (n : ℕ) (f : ℕ → Bool) (i : ℕ) → i < n → f i ≡ true → ((j : ℕ) → j < i → f j ≡ false) → least n f ≡ i
+least-first n f i h e before = go (decLt (least n f) i)
+  where
+    s : (least n f ≤ i) × (f (least n f) ≡ true)
+    s = least-found n f i h e
+
+    go : Dec (least n f < i) → least n f ≡ i
+    go (yes l) = absurd (true≢false (sym (s .1) ∙ before (least n f) l))
+    go (no l) = omega (arith, s .0)
+
+-- none passes
+pub least-none : (n : ℕ) (f : ℕ → Bool) → ((j : ℕ) → j < n → f j ≡ false) → least n f ≡ n
+unfolding least
+least-none zero f none = refl
+least-none (suc n) f none = rw (none 0 (omega arith)) (ap suc (least-none n (λ j. f (suc j)) (λ j l. none (suc j) (omega arith))))
+
+-- the least number that passes: at most n; none before it passes; it passes itself, unless it is n
+pub least-within : (n : ℕ) (f : ℕ → Bool) → least n f ≤ n
+unfolding least
+least-within zero f = omega arith
+least-within (suc n) f = ⊎-elim (λ q. rw q zero-le) (λ q. rw q (suc-le-suc (least-within n (λ i. f (suc i))))) (told (f 0))
+
+pub least-before : (n : ℕ) (f : ℕ → Bool) (j : ℕ) → j < least n f → f j ≡ false
+least-before n f j h = not-told (f j) (λ e. let s = least-found n f j (omega (arith, least-within n f)) e in omega (arith, s .0))
+
+pub least-at : (n : ℕ) (f : ℕ → Bool) → least n f < n → f (least n f) ≡ true
+least-at n f h = ⊎-elim (λ q. q) (λ q. absurd (omega (arith, passes q))) (told (f (least n f)))
+  where
+    passes : f (least n f) ≡ false → least n f ≡ n
+    passes q = least-none n f (λ j l. not-told (f j) (λ e. let s = least-found n f j l e in true≢false (sym (s .1) ∙ q)))

@@ -1,9 +1,11 @@
 pub mod Counts
 pub mod Decides
 pub mod Find
+pub mod Gathers
 pub mod Mods
 pub mod Only
 pub mod Ontos
 pub mod Pigeons
+pub mod Scans
 pub mod Sums
 pub mod Tables

@@ -4,11 +4,11 @@ use mathlib.Core.Path.{_≡_, refl, sym, ap, _∙_}
 use mathlib.Core.List.{List, [], _∷_, _++_, map, map-append}
 use Prim.Native.Nat.{ℕ, zero, suc, _+_, _≤_, _<_}
 use native.Mathlib.Nat.{not-suc-le-zero, le-refl}
-use native.Mathlib.Decide.{decLt}
+use native.Mathlib.Decide.{decLt, ℕ-discrete}
 use native.Mathlib.Numerals.{add-one}
 use native.Mathlib.Omega.{arith}
-use lib.ListN.{length, take, set, getD, length-append, List·getD-append}
-use lib.Seq.{getD-at, ext-getD, take-length, take-append-le}
+use lib.ListN.{length, take, set, getD, length-append, length-set, List·getD-append}
+use lib.Seq.{getD-at, getD-set-same, getD-set-other, ext-getD, take-length, take-append-le}
 use Rattle.lists.specs.Onto.{_onto_}
 use Rattle.lists.specs.Table.{table}
 use Rattle.lists.proofs.Ontos.{onto-nil, onto-more}
@@ -41,6 +41,15 @@ module _ {ℓ} {A : Type ℓ} where
   unfolding table
   table-ext zero f g h = refl
   table-ext (suc n) f g h = (λ i. table-ext n f g (λ k below. h k (omega arith)) i ++ (h n (le-refl (suc n)) i ∷ []))
+
+  -- one element set
+  pub set-table : (n : ℕ) (f g : ℕ → A) (i : ℕ) (a : A) → i < n → g i ≡ a → ((j : ℕ) → j < n → (j ≡ i → ⊥) → g j ≡ f j) → set (table n f) i a ≡ table n g
+  set-table n f g i a h here others =
+      ext-getD a (set (table n f) i a) (table n g) (length-set (table n f) i a ∙ length-table n f ∙ sym (length-table n g)) (λ j l. each j (rw (length-set, length-table) at l) (ℕ-discrete j i))
+    where
+      each : (j : ℕ) → j < n → Dec (j ≡ i) → getD (set (table n f) i a) j a ≡ getD (table n g) j a
+      each j l (yes e) = rw e (getD-set-same (table n f) i a a (rw length-table h) ∙ sym here ∙ sym (getD-table n g i a h))
+      each j l (no ne) = getD-set-other (table n f) i j a a ne ∙ getD-table n f j a l ∙ sym (others j l ne) ∙ sym (getD-table n g j a l)
 
   -- its first i elements
   pub take-table : (n i : ℕ) (f : ℕ → A) → i ≤ n → take i (table n f) ≡ table i f

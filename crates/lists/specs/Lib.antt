@@ -1,4 +1,5 @@
 pub mod Find
+pub mod Gather
 pub mod Onto
 pub mod Sum
 pub mod Table

@@ -77,7 +77,7 @@ unfolding valueIn
 value-elsewhere cols vals j h = sum-zero (length cols) (λ k. cond (eqb (getD cols k 0) j) (getD vals k 0) 0) (λ k l. rw (ne-eqb (getD cols k 0) j (h k l)))
 
 -- the first entry apart
-value-first : (c : ℕ) (cols : List ℕ) (v : ℕ) (vals : List ℕ) (j : ℕ) → valueIn (c ∷ cols) (v ∷ vals) j ≡ cond (eqb c j) v 0 + valueIn cols vals j
+pub value-first : (c : ℕ) (cols : List ℕ) (v : ℕ) (vals : List ℕ) (j : ℕ) → valueIn (c ∷ cols) (v ∷ vals) j ≡ cond (eqb c j) v 0 + valueIn cols vals j
 unfolding valueIn
 value-first c cols v vals j = sum-first (length cols) (λ k. cond (eqb (getD (c ∷ cols) k 0) j) (getD (v ∷ vals) k 0) 0)
 

@@ -20,7 +20,7 @@ use Rattle.sparse.proofs.Firsts.{lowest-good}
 use Rattle.meaning.proofs.Parts.{length-part}
 use Rattle.meaning.proofs.RowColumns.{climbs-good, row-climbs}
 use Rattle.meaning.proofs.Values.{Climbs, columns-climb, value-there, value-elsewhere}
-use Rattle.readers.specs.Asks.{Readable, SquareRow, Square}
+use Rattle.readers.specs.Asks.{Readable, Climbing, SquareRow, Square}
 
 -- a stored value that is not 0, off column i
 abbrev pub other : List ℕ → List ℕ → ℕ → ℕ → Bool
@@ -79,21 +79,22 @@ formed-readable limit p m e =
     let t = lowest-good _ _ (lowest-good _ _ (s .1) .0) in
     record { few = few-rows _ _ _ _ (s .0); shape = t .0; rows = lowest-good _ _ (t .1) .0 }
 
+-- row i of a matrix that can be read
+pub row-climbing : (m : Matrix) → Readable m → (i : ℕ) → i < m .nrows → Climbing (m .ncols) (row (m .row-ptrs) (m .col-idcs) i) (row (m .row-ptrs) (m .values) i)
+unfolding row
+row-climbing m r i h =
+    let l : Laid m = laid m (r .shape) (r .rows) in
+    let fits = l .rows .within i h in
+    let a : ℕ = getD (m .row-ptrs) i 0 in
+    let b : ℕ = getD (m .row-ptrs) (i + 1) 0 in
+    record {
+      same = length-part a b (m .col-idcs) (omega (arith, l .shape .col-each)) ∙ sym (length-part a b (m .values) fits);
+      good = climbs-good (m .ncols) _ (row-climbs m (r .rows) i h);
+    }
+
 -- a square matrix that can be read, and its rows
 pub square-laid : (m : Matrix) → Square m → Laid m
 square-laid m s = laid m (s .whole .shape) (s .whole .rows)
 
 pub square-row : (m : Matrix) → Square m → (i : ℕ) → i < m .nrows → SquareRow (m .ncols) (row (m .row-ptrs) (m .col-idcs) i) (row (m .row-ptrs) (m .values) i) i
-unfolding row
-square-row m s i h =
-    let l : Laid m = square-laid m s in
-    let fits = l .rows .within i h in
-    let a : ℕ = getD (m .row-ptrs) i 0 in
-    let b : ℕ = getD (m .row-ptrs) (i + 1) 0 in
-    record {
-      climbs = record {
-        same = length-part a b (m .col-idcs) (omega (arith, l .shape .col-each)) ∙ sym (length-part a b (m .values) fits);
-        good = climbs-good (m .ncols) _ (row-climbs m (s .whole .rows) i h);
-      };
-      within = omega (arith, s .same);
-    }
+square-row m s i h = record { climbs = row-climbing m (s .whole) i h; within = omega (arith, s .same) }

@@ -4,8 +4,8 @@ use Prim.Native.Nat.{_-_}
 use native.Mathlib.Omega.{arith}
 use borrow.Author.Tests.{eq-eqb, ne-eqb}
 use lib.ListN.{length}
+use Rattle.lists.proofs.Scans.{Clear, clear-none, clear-next, clear-stop, clear-all}
 use Rattle.readers.proofs.Identities.{other}
-use Rattle.readers.proofs.Scans.{Clear, clear-none, clear-next, clear-stop, clear-all}
 use Rattle.readers.proofs.identity.holds_other.Statement.{statement}
 use Rattle.readers.proofs.identity.holds_other.Tie as tie
 

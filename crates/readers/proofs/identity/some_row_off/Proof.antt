@@ -1,14 +1,13 @@
 -- `some_row_off` meets its contract. The loop's invariant: no row before `row` differs from the identity's.
 -- Assumes nothing.
 use mathlib.Core.Path.{sym, _∙_}
-use Prim.Native.Nat.{_+_, _-_}
+use Prim.Native.Nat.{_-_}
 use native.Mathlib.Omega.{arith}
-use lib.ListN.{length, getD}
 use Rattle.lists.specs.Find.{any}
-use Rattle.sparse.specs.Matrix.{matrix, part, row, valueAt}
-use Rattle.sparse.proofs.Cuts.{Within, row-in}
+use Rattle.sparse.specs.Matrix.{part, row, valueAt}
+use Rattle.sparse.proofs.Cuts.{row-in}
+use Rattle.lists.proofs.Scans.{Clear, clear-none, clear-next, clear-stop, clear-all}
 use Rattle.readers.proofs.Identities.{off, square-laid, square-row}
-use Rattle.readers.proofs.Scans.{Clear, clear-none, clear-next, clear-stop, clear-all}
 use Rattle.readers.proofs.identity.some_row_off.Statement.{statement}
 use Rattle.readers.proofs.identity.some_row_off.Tie as tie
 

@@ -1,4 +1,0 @@
-pub mod Asks
-pub mod JoinParts
-pub mod Joins
-pub mod Puts

@@ -1,0 +1,9 @@
+pub mod Ends
+pub mod Examples
+pub mod Forms
+pub mod Gathering
+pub mod LastLaws
+pub mod Promises
+pub mod Sources
+pub mod Vectors
+pub mod Ways

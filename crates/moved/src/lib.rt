@@ -1,0 +1,1 @@
+// Laws only: what the calls of `moves` make, read as a matrix.

@@ -1,0 +1,6 @@
+pub mod HalfRows
+pub mod Named
+pub mod Promises
+pub mod Rights
+pub mod SortPassed
+pub mod Totals

@@ -1,0 +1,5 @@
+pub mod Asks
+pub mod Fresh
+pub mod Memory
+pub mod Room
+pub mod State

@@ -1,0 +1,6 @@
+pub mod Climbing
+pub mod DenseLaws
+pub mod Notebook
+pub mod PivotRows
+pub mod Walking
+pub mod Ways

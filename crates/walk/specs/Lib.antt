@@ -1,0 +1,4 @@
+pub mod Asks
+pub mod Dense
+pub mod Left
+pub mod Step

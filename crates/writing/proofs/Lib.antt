@@ -1,0 +1,9 @@
+pub mod Lowests
+pub mod MatrixRows
+pub mod Puts
+pub mod Puttings
+pub mod RowLoops
+pub mod RowPuts
+pub mod WellFormed
+pub mod Writing
+pub mod Written
