@@ -4,7 +4,7 @@ use mathlib.Core.Path.{_≡_, refl, sym, ap, ap₂, _∙_}
 use mathlib.Core.Bool.{Bool, true, false, cond}
 use mathlib.Core.List.{List, [], _∷_, _++_, map, map-append, append-nil}
 use Prim.Native.Nat.{ℕ, zero, suc, _+_, _≤_, _<_}
-use native.Mathlib.Decide.{decLt}
+use native.Mathlib.Decide.{decLt, le-ind}
 use native.Mathlib.Omega.{arith}
 use lib.ListN.{length, set, length-append}
 use Rattle.lists.specs.Find.{keep}
@@ -41,6 +41,12 @@ module _ {ℓ} {A : Type ℓ} where
       go : Dec (n < m) → (m ≤ n → ((i : ℕ) → m ≤ i → i < n → k i ≡ false) → gather k f n ≡ gather k f m) → gather k f (suc n) ≡ gather k f m
       go (yes l) ih = let e : suc n ≡ m = omega arith in ap (gather k f) e
       go (no l) ih = gather-miss k f n (none n (omega arith) (omega arith)) ∙ ih (omega arith) (λ i a b. none i a (omega arith))
+
+  -- more places, no fewer elements
+  pub gather-few : (k : ℕ → Bool) (f : ℕ → A) (m n : ℕ) → m ≤ n → length (gather k f m) ≤ length (gather k f n)
+  unfolding gather
+  gather-few k f m n h =
+      le-ind (λ (i : ℕ). length (gather k f m) ≤ length (gather k f i)) (omega arith) (λ i l q. omega (arith, q, length-append (gather k f i) (cond (k i) (f i ∷ []) []))) n h
 
   -- kept elements of a table
   pub keep-table : (q : A → Bool) (f : ℕ → A) (n : ℕ) → keep q (table n f) ≡ gather (λ i. q (f i)) f n

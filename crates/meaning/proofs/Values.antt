@@ -95,14 +95,14 @@ tail {n} {c} {v} {cols} {vals} r = record {
 }
 
 -- below the head there is nothing
-before-head : {n c v : ℕ} {cols vals : List ℕ} → Clean n (c ∷ cols) (v ∷ vals) → (j : ℕ) → j < c → valueIn (c ∷ cols) (v ∷ vals) j ≡ 0
+pub before-head : {n c v : ℕ} {cols vals : List ℕ} → Clean n (c ∷ cols) (v ∷ vals) → (j : ℕ) → j < c → valueIn (c ∷ cols) (v ∷ vals) j ≡ 0
 before-head {n} {c} {v} {cols} {vals} r j h = value-elsewhere (c ∷ cols) (v ∷ vals) j at
   where
     at : (k : ℕ) → k < length (c ∷ cols) → getD (c ∷ cols) k 0 ≡ j → ⊥
     at zero l e = omega arith
     at (suc k) l e = omega (arith, r .climbs .rises 0 (suc k) (omega arith) l)
 
-at-head : {n c v : ℕ} {cols vals : List ℕ} → Clean n (c ∷ cols) (v ∷ vals) → valueIn (c ∷ cols) (v ∷ vals) c ≡ v
+pub at-head : {n c v : ℕ} {cols vals : List ℕ} → Clean n (c ∷ cols) (v ∷ vals) → valueIn (c ∷ cols) (v ∷ vals) c ≡ v
 at-head {n} {c} {v} {cols} {vals} r = value-there n (c ∷ cols) (v ∷ vals) (r .climbs) 0 (omega arith)
 
 head-stored : {n c v : ℕ} {cols vals : List ℕ} → Clean n (c ∷ cols) (v ∷ vals) → v ≡ 0 → ⊥

@@ -1,3 +1,5 @@
 pub mod Faults
+pub mod FreshStates
+pub mod Promises
 pub mod Rooms
 pub mod Starts

@@ -1,0 +1,15 @@
+pub mod Accepted
+pub mod Answers
+pub mod Cases
+pub mod Copies
+pub mod Ends
+pub mod Entries
+pub mod Histories
+pub mod Lasts
+pub mod NewRows
+pub mod Nones
+pub mod Notebook
+pub mod Orders
+pub mod Steps
+pub mod Sums
+pub mod Zeros

@@ -1,0 +1,4 @@
+pub mod Added
+pub mod History
+pub mod Rows
+pub mod Setting
