@@ -5,6 +5,7 @@ use mathlib.Core.Logic.{_⊎_, inl, inr, ⊎-elim}
 use mathlib.Core.Bool.{Bool, true, false, not, cond, true≢false}
 use mathlib.Core.List.{List, []}
 use Prim.Native.Nat.{ℕ, zero, suc, _+_, _-_, _*_, _%_, _≤_, _<_}
+use native.Mathlib.Nat.{mul-zero, zero-mod}
 use native.Mathlib.Decide.{ℕ-discrete}
 use native.Mathlib.Numerals.{add-one}
 use native.Mathlib.Omega.{arith}
@@ -14,7 +15,7 @@ use lib.ListN.{length, getD}
 use Rattle.lists.specs.Find.{least}
 use Rattle.lists.specs.Table.{table}
 use Rattle.lists.proofs.Find.{least-within, least-before, least-at}
-use Rattle.lists.proofs.Tables.{length-table}
+use Rattle.lists.proofs.Tables.{length-table, getD-table}
 use Rattle.sparse.specs.Matrix.{row, valueIn}
 use Rattle.sparse.specs.Pivots.{mark}
 use Rattle.walk.specs.Asks.{PivotRow, Pivoted, Clears, Walks}
@@ -58,6 +59,32 @@ next-above dense e = omega arith
 pub minus-long : (p c : ℕ) (cols vals ptrs : List ℕ) (r : ℕ) (dense : List ℕ) {next : List ℕ} → next ≡ minusRow p c cols vals ptrs r dense → length next ≡ length dense
 unfolding minusRow plusMultiple
 minus-long p c cols vals ptrs r dense e = ap length e ∙ length-table (length dense) _
+
+-- nothing stands before `from`, and col is past it
+pub record Front (from : ℕ) (dense : List ℕ) (col : ℕ) : Type 0 where
+  pub below : from ≤ col
+  pub zeros : (j : ℕ) → j < from → getD dense j 0 ≡ 0
+
+pub front-next : {from col at : ℕ} {dense : List ℕ} → Front from dense col → at ≡ nextFrom dense (col + 1) → Front from dense at
+front-next {dense = dense} f e = record { below = omega (arith, f .below, next-above dense e); zeros = f .zeros }
+
+pub front-start : {p from col : ℕ} {cols vals ptrs pivots dense : List ℕ} → Walks p cols vals ptrs pivots from dense → col ≡ nextFrom dense from → Front from dense col
+front-start {dense = dense} asks e = record { below = next-above dense e; zeros = asks .before }
+
+-- a pivot row changes nothing up to its head
+pub front-pivot : {p from col at r : ℕ} {cols vals ptrs dense next : List ℕ} → Front from dense col → Clears p col cols vals ptrs r dense → next ≡ minusRow p col cols vals ptrs r dense → at ≡ nextFrom next (col + 1) → Front from next at
+unfolding minusRow plusMultiple
+front-pivot {p} {from} {col} {at} {r} {cols} {vals} {ptrs} {dense} {next} f k e q = record { below = omega (arith, f .below, next-above next q); zeros = zeros }
+  where
+    zeros : (j : ℕ) → j < from → getD next j 0 ≡ 0
+    zeros j l =
+        let low : j < length dense = omega (arith, f .below, k .within) in
+        ap (λ (d : List ℕ). getD d j 0) e
+        ∙ getD-table (length dense) (λ i. (getD dense i 0 + (p - getD dense col 0) * valueIn (beyond ptrs cols r) (beyond ptrs vals r) i) % p) j 0 low
+        ∙ ap (λ (x : ℕ). (getD dense j 0 + (p - getD dense col 0) * x) % p) (pivot-beyond (k .pivot) .none j (omega (arith, f .below)))
+        ∙ ap (λ (x : ℕ). (getD dense j 0 + x) % p) (mul-zero (p - getD dense col 0))
+        ∙ ap (λ (x : ℕ). (x + 0) % p) (f .zeros j l)
+        ∙ zero-mod p
 
 module _ (on : Bool) (p n : ℕ) (u : Upper) (w : Way) where
   -- at the loop's head

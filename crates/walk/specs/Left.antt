@@ -40,3 +40,8 @@ pub record Left (p n limit : ℕ) (u : Upper) (w : Way) (dense : List ℕ) (head
   pub rest : (j : ℕ) → j < n → w .rest j ≡ restOf (u .pivots) limit dense j
   pub l : w .l ≡ multiples (u .pivots) limit dense
   pub answer : w .answer ≡ answerOf n head
+
+-- the same of a row whose first entry stands at column `from`: nothing is left before it
+pub record LeftFrom (p n limit : ℕ) (u : Upper) (w : Way) (from : ℕ) (dense : List ℕ) (head : ℕ) : Type 0 where
+  pub left : Left p n limit u w dense head
+  pub before : (j : ℕ) → j < from → getD dense j 0 ≡ 0

@@ -6,7 +6,7 @@ ghost use lib.Dec.{ltb};
 ghost use lib.ListN.{length, getD};
 ghost use Rattle.walk.specs.Asks.{Clears, Walks};
 ghost use Rattle.walk.specs.Dense.{minusRow};
-ghost use Rattle.walk.specs.Left.{Left, limitOf};
+ghost use Rattle.walk.specs.Left.{LeftFrom, limitOf};
 ghost use Rattle.walk.specs.Step.{upper, way, climb};
 ghost use Rattle.walk.specs.declared.Answer.the-variants.{None};
 use crate::kernels::add_multiple;
@@ -27,7 +27,7 @@ pub fn walk(
     dense: &mut [u32],
 ) -> usize
     requires { ⌜ Walks p (now «u_cols») (now «u_vals») (now «u_ptrs») (now pivots) from (now dense) ⌝ }
-    ensures { λ r. ⌜ Left p (length (now (dense .entry))) (limitOf on (length (now (dense .entry))) r) (upper (now («u_cols» .entry)) (now («u_vals» .entry)) (now («u_ptrs» .entry)) (now (pivots .entry))) (climb on p (upper (now («u_cols» .entry)) (now («u_vals» .entry)) (now («u_ptrs» .entry)) (now (pivots .entry))) (length (now (dense .entry))) (way (λ j. getD (now (dense .entry)) j 0) [] None)) (now (dense .exit)) r ⌝ }
+    ensures { λ r. ⌜ LeftFrom p (length (now (dense .entry))) (limitOf on (length (now (dense .entry))) r) (upper (now («u_cols» .entry)) (now («u_vals» .entry)) (now («u_ptrs» .entry)) (now (pivots .entry))) (climb on p (upper (now («u_cols» .entry)) (now («u_vals» .entry)) (now («u_ptrs» .entry)) (now (pivots .entry))) (length (now (dense .entry))) (way (λ j. getD (now (dense .entry)) j 0) [] None)) from (now (dense .exit)) r ⌝ }
 {
     let mut head = dense.len();
     let mut col = next(dense, from);

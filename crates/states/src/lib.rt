@@ -1,0 +1,1 @@
+// Laws only: what a state of the reducer's memory gives a step.
