@@ -95,6 +95,9 @@ module _ (on : Bool) (p n : ℕ) (u : Upper) (w : Way) where
     pub going : (on ≡ true) ⊎ (head ≡ n)
     pub heads : (head ≡ n) ⊎ (head < col)
 
+  pub up-bound : {dense : List ℕ} {head col : ℕ} → Up dense head col → head ≤ n
+  up-bound {dense} {head} {col} h = ⊎-elim (λ (e : head ≡ n). omega arith) (λ (l : head < col). omega (arith, h .up)) (h .heads)
+
   -- it hasn't stopped
   pub not-stopped : {dense : List ℕ} {head c : ℕ} → (on ≡ true) ⊎ (head ≡ n) → Left p n c u (climb on p u c w) dense head → stopped on (climb on p u c w) ≡ false
   not-stopped {dense} {head} {c} going left =

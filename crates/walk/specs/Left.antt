@@ -1,6 +1,6 @@
 -- What a walk leaves in dense memory: over pivots below a limit the multiples, elsewhere what is left of the row.
 use mathlib.Core.Path.{_≡_}
-use Prim.Native.Nat.{ℕ, _<_}
+use Prim.Native.Nat.{ℕ, _≤_, _<_}
 use mathlib.Core.Bool.{Bool, true, false, not, _&&_, cond}
 use mathlib.Core.List.{List}
 use lib.Dec.{ltb, eqb}
@@ -44,4 +44,5 @@ pub record Left (p n limit : ℕ) (u : Upper) (w : Way) (dense : List ℕ) (head
 -- the same of a row whose first entry stands at column `from`: nothing is left before it
 pub record LeftFrom (p n limit : ℕ) (u : Upper) (w : Way) (from : ℕ) (dense : List ℕ) (head : ℕ) : Type 0 where
   pub left : Left p n limit u w dense head
+  pub bound : head ≤ n
   pub before : (j : ℕ) → j < from → getD dense j 0 ≡ 0

@@ -10,7 +10,7 @@ use lib.ListN.{length, getD}
 use Rattle.sparse.specs.Pivots.{mark}
 use Rattle.walk.specs.Step.{upper, pivotAt, way}
 use Rattle.walk.specs.declared.Answer.the-variants.{None}
-use Rattle.walk.proofs.Walking.{Up, Front, front-start, front-next, front-pivot, up-start, up-stop, up-free, up-clears, up-pivot, up-end, next-above, minus-long}
+use Rattle.walk.proofs.Walking.{Up, up-bound, Front, front-start, front-next, front-pivot, up-start, up-stop, up-free, up-clears, up-pivot, up-end, next-above, minus-long}
 use Rattle.walk.proofs.climb.walk.Statement.{statement}
 use Rattle.walk.proofs.climb.walk.Tie as tie
 
@@ -38,7 +38,7 @@ same-length c = c .before .before .before .before .loop .inv .0 .left .long
 
 returns : tie.Need-returns Inv-loop μ-loop
 unfolding pivotAt upper mark
-returns c = record { left = up-stop _ _ _ _ _ (c .before .before .before .before .loop .inv .0) (omega (arith, c .before .before .before .loop-test .taken, c .before .before .before .before .loop .inv .0 .left .long)) (not-true _ (c .if2 .taken)) (c .before .if1 .taken); before = c .before .before .before .before .loop .inv .1 .zeros }
+returns c = record { left = up-stop _ _ _ _ _ (c .before .before .before .before .loop .inv .0) (omega (arith, c .before .before .before .loop-test .taken, c .before .before .before .before .loop .inv .0 .left .long)) (not-true _ (c .if2 .taken)) (c .before .if1 .taken); bound = omega (arith, c .before .before .before .loop-test .taken, c .before .before .before .before .loop .inv .0 .left .long); before = c .before .before .before .before .loop .inv .1 .zeros }
 
 lesser-requires : tie.Need-lesser-requires Inv-loop μ-loop
 lesser-requires c κs = search needs
@@ -80,7 +80,7 @@ same-length-2 : tie.Need-same-length-2 Inv-loop μ-loop
 same-length-2 c = c .before .loop .inv .0 .left .long
 
 returns-2 : tie.Need-returns-2 Inv-loop μ-loop
-returns-2 c = record { left = up-end _ _ _ _ _ (c .before .loop .inv .0) (omega (arith, c .loop-test .left, c .before .loop .inv .0 .left .long)); before = c .before .loop .inv .1 .zeros }
+returns-2 c = record { left = up-end _ _ _ _ _ (c .before .loop .inv .0) (omega (arith, c .loop-test .left, c .before .loop .inv .0 .left .long)); bound = up-bound _ _ _ _ _ (c .before .loop .inv .0); before = c .before .loop .inv .1 .zeros }
 
 pub walk-spec : {M : Type 1} → statement M
 walk-spec =
