@@ -20,12 +20,24 @@ MALFORMED = (
     "vector 7 1 0", "vector 7 1 0 0 0", "vector 7 1 0*70001 0", "vector 7 1*2 0 0", "vector 7 1 0 1e3",
     "triplets 7 1 1 0 0 1 9,9 9", "triplets 7 1 1 0 0 1 9,9 9 9 9", "triplets 7 1 1 0 0 1 9,9 9 9*70001",
     "triplets 7 1 1 0 0 1 18446744073709551616,9 9 9", "triplets 7 1 1 0 0 1 9,9 4294967296 9",
+    "add_cols 7 1 1 0,1 0 1", "add_cols 7 1 1 0,1 0 1 0 0", "add_cols 7 1 1 0,1 0 1 4294967296", "add_col 7 1 1 0,1 0 1 0",
+    "append 7 1 1 0,1 0 1 1 1 0,1 0 1 9*3 9*2", "append 7 1 1 0,1 0 1 1 1 0,1 0 1 9*3 9*2 9*2 9", "append",
+    "append_col 7 1 1 0,1 0 1 1 0 1 9*2 9*2", "append_col 7 1 1 0,1 0 1 1,1 0 1 9*2 9*2 9*2", "append_cols 7",
+    "append_identity 7 1 1 0,1 0 1 9*2 9*2", "append_identity 7 1 1 0,1 0 1 9*2 9*70001 9*2",
+    "add_row 7 1 1 0,1 0 1 0 1 9*3 9*2", "add_row 7 1 1 0,1 0 1 0 1 9*3 9*2 4294967296",
+    "last_row 7 1 1 0,1 0 1 9", "last_row 7 1 1 0,1 0 1 9 9 9", "is_one 7 1 1 0,1 0", "is_one 7 1 1 0,1 0 1 1",
+    "fmt_mma 7 1 1 0,1 0 1", "fmt_mma 7 1 1 0,1 0 1 256", "fmt_mma 7 1 1 0,1 0 1 9 9", "fmt_mma 7 1 1 0,1 0 1 text",
+    "take_rev_right_half 7 1 2 0,1 0 1 9*2 9", "take_right_half 7 1 2 0,1 0 1 9*2 9 9",
+    "sort_rows_by_pivot 7 1 2 0,1 0 1 9*2 9 9", "sort_rows_by_pivot 7 1 2 0,1 0 1 -1 9*2 9 9",
+    "last_column 7 1 2 0,1 0 1 9", "last_column_rev 7 1 2 0,1 0 1 9 9 9", "last_column_by_pivot 7 1 2 0,1 0 1 9 9",
+    "last_columns 7 1 2 0,1 0 1 9 9", "last_column_by_pivot 7 1 2 0,1 0 1 none 9 9",
+    "fmt_mma_vector 7 1 0 1", "fmt_mma_vector 7 1 0 1 0,300", "fmt_mma_vector 7 1 0 1 9*70001",
 )
 SKIPPED = ("", "#", "# a comment", "#prime 7")
 
-# How the random part is shared out: prime and inverse have little to try.
-SHARES = {"prime": 1, "inverse": 1}
-USUAL_SHARE = 6
+# How the random part is shared out: prime and inverse have little to try, and the tests many small cases.
+SHARES = {"prime": 1, "inverse": 1, "csr": 3, "clean": 3, "vector": 3, "triplets": 3}
+USUAL_SHARE = 8
 
 
 def line(call, args):

@@ -21,6 +21,8 @@ SIDE = Kind(2**32, False, (1023, 1024, 1025) + EDGES)
 NUMBER = Kind(2**32, False, EDGES)
 COLUMNS = Kind(2**32, True, (1023, 1024, 1025) + EDGES)
 VALUES = Kind(2**32, True, EDGES)
+PIVOTS = Kind(2**32, True, (0, 1, 2, 3, 1024, 2**32 - 2, 2**32 - 1, 2**32 - 1, 2**32 - 1))
+BYTES = Kind(2**8, True, (0, 48, 123, 255))
 POINTERS = Kind(2**64, True, (65535, 65536, 65537, 2**32, 2**32 + 1, 2**64 - 1) + EDGES)
 
 

@@ -1,6 +1,7 @@
 """The verdict on one case: our answer against the second program's, the Rust's outcome against its
 rule."""
 
+import re
 from collections import namedtuple
 
 import form
@@ -18,32 +19,36 @@ BY_RULE = "no rule explains the Rust's outcome"
 
 
 def predict(line):
-    """The call's name, the Rust's outcome and its reason."""
+    """The call's name, and what its rule says of the Rust."""
     try:
         call, args = form.read_case(line, CALLS)
     except form.Malformed:
-        return MALFORMED, *rules.MALFORMED
+        return MALFORMED, rules.MALFORMED
     applying = call.numbers_of(*args)
-    return call.name, *call.rust(args, applying, call.second(args, applying))
+    return call.name, call.rust(args, applying, call.second(args, applying))
 
 
 def verdict(line, outcomes):
-    call, predicted, reason = predict(line)
+    call, rust = predict(line)
     fault = None
     if outcomes.replay != outcomes.second:
         fault = BY_REPLAY
-    elif outcomes.rust != predicted:
+    elif outcomes.rust != rust.outcome:
         fault = BY_RUST
-    elif reason is None:
+    elif rust.reason is None:
         fault = BY_RULE
-    return Verdict(call, predicted, reason, fault)
+    return Verdict(call, rust.outcome, rust.reason, fault)
 
 
 def head(outcome):
-    """An outcome without its lists: `made 3 | ...` is `made`, `refused 3 | ...` is `refused 3`."""
+    """An outcome without its lists and numbers, but for a refusal's: `made 3 | ...` is `made`,
+    `refused 3 | ...` is `refused 3`, `panic ... the len is 3 ...` is `panic ... the len is N ...`."""
     words = outcome.split(" | ")[0]
-    if words.split(" ")[0] in ("made", "ok"):
-        return words.split(" ")[0]
+    kind = words.split(" ")[0]
+    if kind == "panic":
+        return re.sub(r"\d+", "N", words)
+    if kind in ("made", "columns", "row", "bytes", "ok"):
+        return kind
     return "an inverse" if words.isdigit() else words
 
 

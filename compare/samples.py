@@ -11,18 +11,19 @@ from itertools import combinations
 import form
 import makers
 from cases import MALFORMED, SKIPPED, damaged, line
-from calls import CALLS, TABLE
+from calls import CALLS, TABLE, TESTS
 
 SEED = 20
 TRIES = 40_000
 LONGEST = 140  # a recorded case should be readable
-OF_SUCCESS, OF_ONE, OF_TWO, OF_MORE = 24, 16, 5, 1
-MOST_SETS = 45
+# how many are taken where no number applies, one, two, more; and of how many sets of numbers at most
+TAKEN = ((24, 16, 5, 1), 45)
+OF_MATRICES = ((12, 7, 2, 1), 30)
 
 INTRODUCTION = """\
 # Recorded cases: one a line, answered in the file stdout by one line each.
-# compare/record wrote both. Where the original Rust has an answer (good, made, and the errors for 3, 4, 5, 8 and 9
-# that it tests), the answer was taken from a run of it; the other answers are those of the second program, which
+# compare/record wrote both. Where the original Rust has an answer (a success, and the errors and panics of what it
+# tests itself), the answer was taken from a run of it; the other answers are those of the second program, which
 # follows document 01. compare/README.md says how cases and answers are written.
 """
 
@@ -124,6 +125,109 @@ PLAIN = (
         "triplets 7 3 0 - - - 91,92,93,94 - -",
         "triplets 7 3 3 2 2 0 18446744073709551615*5 4294967295*3 4294967295*2",
     )),
+    ("Traps: append_identity's size is columns plus rows, and comes before the question whether it is square.", (
+        "append_identity 7 600 500 0*601 - - 9*601 8*600 7*600",
+        "append_identity 7 500 600 0*501 - - 9*501 8*500 7*500",
+        "append_identity 7 3 2 0*4 - - 9*4 8*3 7*3",
+        "append_identity 7 2 3 0*3 - - 9*3 8*2 7*2",
+        "append_identity 7 513 513 0*514 - - 9*514 8*513 7*513",
+        "append_identity 7 512 512 0*513 - - 9*513 8*512 7*512",
+        "append_identity 7 512 512 0*513 - - 9*513 8*511 7*512",
+        "append_identity 7 3 3 0,2,1,2 0,1 1,9 9*4 8*5 7*5",
+    )),
+    ("Traps: the result's size comes before positions that are bad and column counts that differ.", (
+        "add_cols 7 1 1024 0*2 - - 1,1",
+        "add_cols 7 1 1024 0*2 - - 1025",
+        "add_cols 7 1 1024 0*2 - - 1024",
+        "add_cols 7 1 1023 0*2 - - 1,1",
+        "add_cols 7 1 1022 0*2 - - 1,1",
+        "add_cols 7 1 1023 0*2 - - 1024",
+        "add_cols 7 1 1023 0*2 - - 1023",
+        "append 7 600 2 0*601 - - 600 3 0*601 - - 9*1201 - -",
+        "append 7 600 2 0*601 - - 424 3 0*425 - - 9*1025 - -",
+        "append 7 600 2 0*601 - - 425 2 0*426 - - 9*1026 - -",
+        "append 7 600 2 0*601 - - 424 2 0*425 - - 9*1025 - -",
+        "append 7 600 2 0*601 - - 424 2 0*425 - - 9*1024 - -",
+        "append_col 7 2 1024 0*3 - - 3 0 1 9*3 8 7",
+        "append_col 7 2 1023 0*3 - - 3 0 1 9*3 8 7",
+        "append_col 7 2 1023 0*3 - - 2 0 1 9*3 8 7",
+        "add_row 7 1024 2 0*1025 - - 0 1 9*1026 8 7",
+        "add_row 7 1023 2 0*1024 - - 0 1 9*1025 8 7",
+    )),
+    ("Traps: a pivot table is read whole, whether it is longer or shorter than the columns.", (
+        "sort_rows_by_pivot 7 2 2 0,1,2 0,1 5,6 4294967295,1,4294967295*3,0 9*3 8*2 7*2",
+        "sort_rows_by_pivot 7 2 5 0,1,2 0,1 5,6 1,0 9*3 8*2 7*2",
+        "sort_rows_by_pivot 7 2 2 0,1,2 0,1 5,6 0,1,0 9*3 8*2 7*2",
+        "sort_rows_by_pivot 7 2 2 0,1,2 0,1 5,6 0,4294967295*3,2 9*3 8*2 7*2",
+        "sort_rows_by_pivot 7 2 2 0,1,2 0,1 5,6 0 9*3 8*2 7*2",
+        "sort_rows_by_pivot 7 1 2 0,1 0 5 0,4294967295*1023 9*2 8 7",
+        "sort_rows_by_pivot 7 1 2 0,1 0 5 0,4294967295*1024 9*2 8 7",
+        "sort_rows_by_pivot 7 0 2 0 - - 4294967295*1025 9 - -",
+        "last_column_by_pivot 7 2 2 0,1,2 1*2 5,6 4294967295,1,4294967295*3,0 9*2 8*2",
+        "last_column_by_pivot 7 2 5 0,1,2 4*2 5,6 1,0 9*2 8*2",
+        "last_column_by_pivot 7 2 2 0,1,2 1*2 5,6 0,1,0 9*2 8*2",
+        "last_column_by_pivot 7 2 2 0,1,2 1*2 5,6 0,4294967295*3,2 9*2 8*2",
+        "last_column_by_pivot 7 1 1 0,1 0 5 4294967295*1023,0 9 8",
+        "last_column_by_pivot 7 1 1 0,1 0 5 4294967295*1024,0 9 8",
+        "last_column_by_pivot 7 1 1 0,1 0 5 4294967295*1024,0 - -",
+    )),
+    ("4 and 5 over two matrices: in each the first bad row decides, and the lower of their numbers is given.", (
+        "append 7 1 2 0,1 2 1 2 2 0,2,1 0 1 9*4 8*2 7*2",
+        "append 7 2 2 0,2,1 0 1 1 2 0,1 2 1 9*4 8*2 7*2",
+        "append 7 3 2 0,1,0,2 3,0 1,1 1 2 0,1 0 1 9*5 8*3 7*3",
+        "append 7 3 2 0,1,0,2 3,0 1,1 3 2 0,2,1,2 0,1 1,1 9*7 8*4 7*4",
+        "append 7 1 2 0,1 2 1 1 2 0,2 0 1 9*3 8*2 7*2",
+        "append_col 7 3 2 0,1,0,2 3,0 1,1 3 1,0 1,1 9*4 8*4 7*4",
+        "append_col 7 2 2 0,2,1 0 1 2 2 1 9*3 8*2 7*2",
+        "add_row 7 2 2 0,2,1 0 1 2 1 9*4 8*2 7*2",
+    )),
+    ("N10: three columns, positions 0 and 3: column 2 becomes 3, five columns.", (
+        "add_cols 7 1 3 0,1 2 5 0,3",
+        "add_cols 7 2 3 0,3,4 0,1,2,1 1,2,3,4 0,3",
+        "add_cols 7 2 3 0,3,4 0,1,2,1 1,2,3,4 1,2",
+        "add_cols 7 2 3 0,3,4 0,1,2,1 1,2,3,4 -",
+    )),
+    ("Lent memory of the edits and readers keeps what it held past the result, and all of it on a refusal.", (
+        "append_col 7 2 2 0,1,2 0,1 5,6 2 1 3 91,92,93,94 81,82,83,84 71,72,73,74",
+        "append_col 7 2 2 0,1,2 0,1 5,6 2 1 3 91,92 81,82,83,84 71,72,73,74",
+        "append_identity 7 2 2 0,1,2 0,1 5,6 91,92,93,94 81,82,83,84,85 71,72,73,74,75",
+        "append 7 1 2 0,1 0 5 1 2 0,1 1 6 91,92,93,94 81,82,83 71,72,73",
+        "append 7 1 2 0,1 0 5 1 2 0,1 1 6 91,92,93,94 81 71,72,73",
+        "add_row 7 1 2 0,1 0 5 0,1 3,4 91,92,93,94 81,82,83,84 71,72,73,74",
+        "add_row 7 1 2 0,1 0 5 0,1 3,4 91,92,93,94 81,82,83,84 71,72",
+        "take_rev_right_half 7 2 4 0,2,4 0,3,2,3 1,2,3,4 91,92,93,94 81,82,83,84 71,72,73,74",
+        "sort_rows_by_pivot 7 2 2 0,1,2 0,1 5,6 1,0 91,92,93,94 81,82,83 71,72,73",
+        "last_row 7 2 2 0,1,2 0,1 5,6 81,82,83 71,72",
+        "last_row 7 2 2 0,1,2 0,1 5,6 - 71,72",
+        "last_row 7 0 2 0 - - 81,82 71",
+        "last_column 7 3 2 0,1,2,3 1,0,1 5,6,4 81,82,83 71,72,73",
+        "last_column_rev 7 3 2 0,1,2,3 1,0,1 5,6,4 81,82,83 71,72,73",
+        "last_column_by_pivot 7 3 2 0,1,2,3 1,0,1 5,6,4 2,1,0 81,82,83 71,72,73",
+    )),
+    ("is_one ignores stored zeros, says no where it is not square, and yes to 0 by 0.", (
+        "is_one 7 0 0 0 - -",
+        "is_one 7 0 1 0 - -",
+        "is_one 7 1 0 0*2 - -",
+        "is_one 7 2 2 0,2,3 0,1*2 1,0,1",
+        "is_one 7 2 2 0,2,3 0,1*2 1,1*2",
+        "is_one 7 2 2 0,1,2 0,1 1,2",
+        "is_one 7 2 2 0,1*2 0 1",
+        "is_one 2 1 1 0,1 0 1",
+    )),
+    ("fmt_mma counts from 1; of 0 by 0 it is {{},{0,0}}, which needs ten bytes.", (
+        "fmt_mma 7 0 0 0 - - 1*11",
+        "fmt_mma 7 0 0 0 - - 1*10",
+        "fmt_mma 7 0 0 0 - - 1*9",
+        "fmt_mma 7 2 1025 0,2,1 0 1 1*20",
+        "fmt_mma 7 2 2 0,1,2 0,1 5,6 1*30",
+        "fmt_mma 7 2 2 0,2,3 0,1*2 0,5,6 1*40",
+        "fmt_mma 2147483647 10 10 0*10,1 9 2147483646 1*40",
+        "fmt_mma_vector 7 3 1 5 1*20",
+        "fmt_mma_vector 7 0 - - 1*11",
+        "fmt_mma_vector 7 0 - - 1*10",
+        "fmt_mma_vector 7 0 - - 1*9",
+        "fmt_mma_vector 2147483647 1024 1023 2147483646 1*35",
+    )),
 )
 
 
@@ -139,13 +243,14 @@ def found_sets(call):
         if len(text) > LONGEST:
             continue
         applying = call.numbers_of(*args)
-        number = call.second(args, applying).split(" | ")[0] if applying else ""
+        words = call.second(args, applying).split(" | ")[0]
+        number = words if applying else words.split(" ")[0]
         found[tuple(sorted(applying)), number].append(text)
     return {key: list(dict.fromkeys(texts)) for key, texts in found.items()}
 
 
-def most_of(size):
-    return {0: OF_SUCCESS, 1: OF_ONE, 2: OF_TWO}.get(size, OF_MORE)
+def taken(call):
+    return TAKEN if call in TESTS else OF_MATRICES
 
 
 def heading(call, size):
@@ -156,10 +261,11 @@ def heading(call, size):
 def by_numbers(call):
     rng = random.Random(SEED)
     found = found_sets(call)
+    many, most_sets = taken(call)
     for size in range(4):
         keys = sorted(k for k in found if min(3, len(k[0])) == size)
-        chosen = keys if len(keys) <= MOST_SETS else rng.sample(keys, MOST_SETS)
-        lines = [t for key in chosen for t in sample(rng, found[key], most_of(len(key[0])))]
+        chosen = keys if len(keys) <= most_sets else rng.sample(keys, most_sets)
+        lines = [t for key in chosen for t in sample(rng, found[key], many[size])]
         yield heading(call, size), lines
 
 
@@ -183,6 +289,14 @@ def of_inverse():
     return [f"inverse {p} {a}" for p, a in small + large + ends + none]
 
 
+def known(plain):
+    """The lines of calls that are in the table."""
+    for heading, lines in plain:
+        lines = [text for text in lines if text.split(" ")[0] in CALLS]
+        if lines:
+            yield heading, lines
+
+
 def groups():
     """(heading, lines) in the order of the file."""
     yield "prime: whether the number is a prime in 2..2147483647.", of_prime()
@@ -190,7 +304,7 @@ def groups():
     for call in TABLE:
         if call.gives:
             yield from by_numbers(call)
-    yield from PLAIN
+    yield from known(PLAIN)
     yield "Malformed lines are answered `bad`, and the run goes on.", [*MALFORMED, "prime 7"]
     yield "Empty lines and comments are not answered.", [*SKIPPED, "prime 7"]
 

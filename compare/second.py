@@ -1,5 +1,6 @@
 #!/usr/bin/env python3
-"""The second program: reads cases, answers them by second_rules.py, and writes the answers.
+"""The second program: reads cases, answers them by second_rules.py, second_edits.py and
+second_readers.py, and writes the answers.
 
 The rules were written from document 01 alone; this file only reads and writes the text form.
 
@@ -11,13 +12,38 @@ import sys
 sys.dont_write_bytecode = True
 
 import form
+import second_edits
+import second_readers
 import second_rules
+from second_edits import (
+    NO_ROW,
+    add_cols_numbers,
+    add_row_numbers,
+    append_col_numbers,
+    append_identity_numbers,
+    append_numbers,
+    rows_of,
+    sort_rows_by_pivot_numbers,
+    take_rev_right_half_numbers,
+)
+from second_readers import (
+    fmt_mma_numbers,
+    fmt_mma_vector_numbers,
+    in_last_column,
+    last_column_by_pivot_numbers,
+    last_column_numbers,
+    last_row_numbers,
+    matrix_text,
+    vector_text,
+)
 from second_rules import (
     clean_numbers,
     csr,
     csr_numbers,
     first_bad_row,
     inverse,
+    lengths_differ,
+    pointers_of,
     prime,
     rows_built,
     triplets_numbers,
@@ -31,13 +57,26 @@ def no_numbers(*_):
     return set()
 
 
-def refusal(number):
-    return f"refused {number}"
+def written_out(rule):
+    """A rule that gives words and lent lists, as one that gives an answer's text."""
+    return lambda args, applying: form.write_answer(*rule(args, applying))
 
 
-def triplets(args, applying):
-    words, lent = second_rules.triplets(args, applying)
-    return form.write_answer(words, lent)
+triplets = written_out(second_rules.triplets)
+add_cols = written_out(second_edits.add_cols)
+append_col = written_out(second_edits.append_col)
+append_identity = written_out(second_edits.append_identity)
+take_rev_right_half = written_out(second_edits.take_rev_right_half)
+append = written_out(second_edits.append)
+add_row = written_out(second_edits.add_row)
+sort_rows_by_pivot = written_out(second_edits.sort_rows_by_pivot)
+last_column = written_out(second_readers.last_column)
+last_column_rev = written_out(second_readers.last_column_rev)
+last_column_by_pivot = written_out(second_readers.last_column_by_pivot)
+last_row = written_out(second_readers.last_row)
+is_one = written_out(second_readers.is_one)
+fmt_mma = written_out(second_readers.fmt_mma)
+fmt_mma_vector = written_out(second_readers.fmt_mma_vector)
 
 
 def answer(line, calls):

@@ -16,7 +16,7 @@ Nothing here changes a list that it was given.
 
 from bisect import bisect_left, bisect_right
 from functools import lru_cache
-from itertools import pairwise
+from itertools import accumulate, pairwise
 
 LARGEST_MODULUS = 2_147_483_647
 MOST_ROWS_OR_COLUMNS = 1_024
@@ -77,6 +77,12 @@ def _pointers_do_not_frame(nrows, row_ptrs, entries):
     )
 
 
+def lengths_differ(nrows, row_ptrs, col_idcs, values):
+    """3, of a matrix."""
+    entries = len(values)
+    return len(col_idcs) != entries or _pointers_do_not_frame(nrows, row_ptrs, entries)
+
+
 def _pointers_fall_or_pass(row_ptrs, entries):
     """4."""
     return any(end < start for start, end in pairwise(row_ptrs)) or any(
@@ -117,7 +123,7 @@ def _triplets_not_rising(rows, cols):
     return any(second <= first for first, second in pairwise(zip(rows, cols)))
 
 
-def _no_room(nrows, entries, row_ptrs, col_idcs, values):
+def no_room(nrows, entries, row_ptrs, col_idcs, values):
     """14 for a matrix result: rows+1 pointers, a column and a value per entry."""
     return (
         len(row_ptrs) < nrows + 1
@@ -126,7 +132,7 @@ def _no_room(nrows, entries, row_ptrs, col_idcs, values):
     )
 
 
-def _those_that_apply(clauses):
+def those_that_apply(clauses):
     return {number for number, applies in clauses.items() if applies}
 
 
@@ -136,11 +142,10 @@ def _those_that_apply(clauses):
 def csr_numbers(p, nrows, ncols, row_ptrs, col_idcs, values):
     """Well formed is asked: 2 to 6, and 1 for the modulus."""
     entries = len(values)
-    return _those_that_apply({
+    return those_that_apply({
         1: not is_modulus(p),
         2: _too_large(nrows, ncols, entries),
-        3: len(col_idcs) != entries
-           or _pointers_do_not_frame(nrows, row_ptrs, entries),
+        3: lengths_differ(nrows, row_ptrs, col_idcs, values),
         4: _pointers_fall_or_pass(row_ptrs, entries),
         5: _columns_bad(ncols, row_ptrs, col_idcs),
         6: _value_too_large(p, values),
@@ -160,7 +165,7 @@ def vector_numbers(p, length, idcs, values):
     pointers would be 0 and the value count, so of 3 only the differing numbers
     can apply and 4 never. Clean rows aren't asked: no 7."""
     entries = len(values)
-    return _those_that_apply({
+    return those_that_apply({
         1: not is_modulus(p),
         2: _too_large(1, length, entries),
         3: len(idcs) != entries,
@@ -178,14 +183,14 @@ def triplets_numbers(p, nrows, ncols, rows, cols, vals, row_ptrs, col_idcs, valu
     # The result has the input's shape and number of entries, so 2 is the same
     # question for both.
     entries = len(vals)
-    return _those_that_apply({
+    return those_that_apply({
         1: not is_modulus(p),
         2: _too_large(nrows, ncols, entries),
         3: not len(rows) == len(cols) == entries,
         6: _value_too_large(p, vals),
         8: _outside_shape(nrows, ncols, rows, cols),
         9: _triplets_not_rising(rows, cols),
-        14: _no_room(nrows, entries, row_ptrs, col_idcs, values),
+        14: no_room(nrows, entries, row_ptrs, col_idcs, values),
     })
 
 
@@ -209,6 +214,16 @@ def first_bad_row(ncols, row_ptrs, col_idcs):
         if any(second <= first for first, second in pairwise(row)):
             return 5
     return None
+
+
+def written(result, lent):
+    """Lent memory after the result is written to its front: elements past it keep what they held."""
+    return list(result) + list(lent[len(result):])
+
+
+def pointers_of(rows):
+    """The row pointers of a list of rows: none, then the number of entries up to each row's end."""
+    return [0, *accumulate(map(len, rows))]
 
 
 def rows_built(nrows, rows):
@@ -242,10 +257,6 @@ def triplets(args, applying):
     if applying:
         # Every refusal returns all lent memory as it came.
         return f"refused {min(applying)}", [list(row_ptrs), list(col_idcs), list(values)]
-
-    def written(result, lent):
-        # Elements past the result keep what they held.
-        return list(result) + list(lent[len(result):])
 
     return f"made {len(vals)}", [
         written(rows_built(nrows, rows), row_ptrs),

@@ -5,7 +5,7 @@
 use std::panic::{AssertUnwindSafe, catch_unwind};
 
 use crate::{
-    quiet,
+    matrices, quiet,
     tensors::sparse::{SparseMatrix, SparseVector},
     words::{Words, list},
     zp::Zp,
@@ -20,6 +20,20 @@ const CALLS: &[(&str, Call)] = &[
     ("clean", csr),
     ("vector", vector),
     ("triplets", triplets),
+    ("add_cols", matrices::add_cols),
+    ("append_col", matrices::append_col),
+    ("append_identity", matrices::append_identity),
+    ("take_rev_right_half", matrices::take_rev_right_half),
+    ("append", matrices::append),
+    ("add_row", matrices::add_row),
+    ("sort_rows_by_pivot", matrices::sort_rows_by_pivot),
+    ("last_column", matrices::last_column),
+    ("last_column_rev", matrices::last_column_rev),
+    ("last_column_by_pivot", matrices::last_column_by_pivot),
+    ("last_row", matrices::last_row),
+    ("is_one", matrices::is_one),
+    ("fmt_mma", matrices::fmt_mma),
+    ("fmt_mma_vector", matrices::fmt_mma_vector),
 ];
 
 const NOTHING_TO_RUN: &str = "-";
@@ -35,11 +49,11 @@ pub fn outcome(case: &str) -> Option<String> {
     call(&mut words)
 }
 
-/// The answer of `run`, or the message of its panic.
-fn caught(run: impl FnOnce() -> String) -> String {
+/// The answer of `run`, or the message of its panic, on one line.
+pub fn caught(run: impl FnOnce() -> String) -> String {
     match catch_unwind(AssertUnwindSafe(run)) {
         Ok(answer) => answer,
-        Err(_) => format!("panic {}", quiet::message()),
+        Err(_) => format!("panic {}", quiet::message().replace('\n', " ")),
     }
 }
 

@@ -2,6 +2,7 @@
 
 mod calls;
 mod domains;
+mod matrices;
 mod printer;
 mod quiet;
 mod tensors;

@@ -1,65 +1,54 @@
-// One case: which call it is of, and its answer.
-use crate::answers::ROOM;
-use crate::answers::Said;
-use crate::answers::put;
-use crate::matrices::csr;
-use crate::matrices::triplets;
-use crate::matrices::vector;
-use crate::numbers::inverse;
-use crate::numbers::prime;
+// The families of calls. Each is asked in turn whether the case is one of its own.
+use answers::ROOM;
+use answers::Said;
+use answers::put;
+use cases_read::texts;
+use cases_read::vectors;
+use cases_read::widening;
+use words::LONG;
+use words::NUMBERS;
+use words::POINTERS;
 
-// The longest line of a case.
-const LONGEST: usize = 1000000;
-
-// Answers one line: nothing for an empty line or a comment, `bad` for a malformed case.
-pub fn case(line: &[u8], out: &mut [u8; ROOM], fill: usize) -> usize {
-    if line.len() == 0 {
+// Answers the case: nothing where it is empty, `bad` where it is malformed.
+pub fn answer(
+    case: &[u8],
+    nums: &mut [u32; NUMBERS],
+    wides: &mut [usize; POINTERS],
+    ptrs: &mut [usize; LONG],
+    cols: &mut [u32; LONG],
+    vals: &mut [u32; LONG],
+    text: &mut [u8; LONG],
+    out: &mut [u8; ROOM],
+    fill: usize,
+) -> usize {
+    if case.len() == 0 {
         return fill;
     }
-    if line[0] == b'#' {
-        return fill;
+    if cases_told::has(case) {
+        return end(cases_told::said(case, nums, wides, out, fill), out, fill);
     }
-    if line.len() > LONGEST {
-        return put(out, fill, b"bad\n");
+    if cases_made::has(case) {
+        let said = cases_made::said(case, nums, wides, ptrs, cols, vals, out, fill);
+        return end(said, out, fill);
     }
-    let Said::To(fill) = answer(line, out, fill) else {
+    if vectors::has(case) {
+        let said = vectors::said(case, nums, wides, cols, vals, out, fill);
+        return end(said, out, fill);
+    }
+    if widening::has(case) {
+        return end(
+            widening::said(case, nums, wides, cols, out, fill),
+            out,
+            fill,
+        );
+    }
+    end(texts::said(case, nums, wides, text, out, fill), out, fill)
+}
+
+// Ends the answer's line. A malformed case has put nothing before.
+fn end(said: Said, out: &mut [u8; ROOM], fill: usize) -> usize {
+    let Said::To(fill) = said else {
         return put(out, fill, b"bad\n");
     };
     put(out, fill, b"\n")
-}
-
-// The answer of the call that the line names. Each call is handed the place where its name ends.
-fn answer(line: &[u8], out: &mut [u8; ROOM], fill: usize) -> Said {
-    if is_call(line, b"prime") {
-        return prime(line, 5, out, fill);
-    }
-    if is_call(line, b"inverse") {
-        return inverse(line, 7, out, fill);
-    }
-    if is_call(line, b"csr") {
-        return csr(line, 3, false, out, fill);
-    }
-    if is_call(line, b"clean") {
-        return csr(line, 5, true, out, fill);
-    }
-    if is_call(line, b"vector") {
-        return vector(line, 6, out, fill);
-    }
-    if is_call(line, b"triplets") {
-        return triplets(line, 8, out, fill);
-    }
-    Said::Bad
-}
-
-// Whether the line's first word is the name, with a space after it.
-fn is_call(line: &[u8], name: &[u8]) -> bool {
-    if line.len() <= name.len() {
-        return false;
-    }
-    for i in 0..name.len() {
-        if line[i] != name[i] {
-            return false;
-        }
-    }
-    line[name.len()] == b' '
 }

@@ -1,0 +1,2 @@
+// A single row added to a reducer: its tests. The inside of the reducer so far.
+pub mod inside;

@@ -1,0 +1,57 @@
+// The lines of the input, one after the other.
+use crate::calls::answer;
+use answers::ROOM;
+use cases::input::no_lines;
+use cases::input::step;
+use cases::memory::LINES;
+use words::LONG;
+use words::NUMBERS;
+use words::POINTERS;
+
+// The longest line of a case.
+const LONGEST: usize = 1000000;
+
+// Answers every line of standard input, and says how many bytes wait then. Nothing says that the
+// input ends, so the steps are counted down from a number that no run uses up.
+pub fn replay(
+    lines: &mut [u8; LINES],
+    nums: &mut [u32; NUMBERS],
+    wides: &mut [usize; POINTERS],
+    ptrs: &mut [usize; LONG],
+    cols: &mut [u32; LONG],
+    vals: &mut [u32; LONG],
+    text: &mut [u8; LONG],
+    out: &mut [u8; ROOM],
+) -> usize {
+    let mut state = no_lines();
+    let mut fill = 0;
+    let mut left = u64::MAX;
+    while left > 0 {
+        state = step(lines, state);
+        let case = case_of(lines, state.start, state.stop);
+        fill = answer(case, nums, wides, ptrs, cols, vals, text, out, fill);
+        if state.done {
+            return fill;
+        }
+        left -= 1;
+    }
+    fill
+}
+
+// The case from `start` up to `stop`; nothing of an empty line or a comment. Of a line that is too
+// long, its first byte, which is no case.
+fn case_of(lines: &[u8], start: usize, stop: usize) -> &[u8] {
+    if start >= stop {
+        return &lines[0..0];
+    }
+    if stop > lines.len() {
+        return &lines[0..0];
+    }
+    if lines[start] == b'#' {
+        return &lines[0..0];
+    }
+    if stop - start > LONGEST {
+        return &lines[start..start + 1];
+    }
+    &lines[start..stop]
+}

@@ -1,0 +1,79 @@
+-- `narrow_copies` is safe and ends: the copies fit the memory.
+-- Assumes nothing.
+use Prim.Native.Nat.{_-_, _≤_}
+use native.Mathlib.Omega.{arith}
+use Rattle.words.proofs.narrow_copies.Statement.{statement}
+use Rattle.words.proofs.narrow_copies.Tie as tie
+
+abbrev Inv-loop : tie.InvT-loop
+Inv-loop run place nums₀ from many to value i₀ nums i = i ≤ to
+
+abbrev μ-loop : tie.MeasureT-loop
+μ-loop run place nums₀ from many to value i₀ nums i = to - i
+
+nowhere-requires : tie.Need-nowhere-requires Inv-loop μ-loop
+nowhere-requires c κs = tt
+
+returns : tie.Need-returns Inv-loop μ-loop
+returns c = tt
+
+nowhere-requires-2 : tie.Need-nowhere-requires-2 Inv-loop μ-loop
+nowhere-requires-2 c κs = tt
+
+returns-2 : tie.Need-returns-2 Inv-loop μ-loop
+returns-2 c = tt
+
+nowhere-requires-3 : tie.Need-nowhere-requires-3 Inv-loop μ-loop
+nowhere-requires-3 c κs = tt
+
+returns-3 : tie.Need-returns-3 Inv-loop μ-loop
+returns-3 c = tt
+
+add-to : tie.Need-add-to Inv-loop μ-loop
+add-to c = omega arith
+
+cast-value : tie.Need-cast-value Inv-loop μ-loop
+cast-value c = omega arith
+
+loop-holds : tie.Need-loop-holds Inv-loop μ-loop
+loop-holds c = omega arith
+
+mul-nums : tie.Need-mul-nums Inv-loop μ-loop
+mul-nums c = omega arith
+
+element-write-nums : tie.Need-element-write-nums Inv-loop μ-loop
+element-write-nums c = omega arith
+
+add-i : tie.Need-add-i Inv-loop μ-loop
+add-i c = omega arith
+
+loop-less : tie.Need-loop-less Inv-loop μ-loop
+loop-less c = omega arith
+
+loop-again : tie.Need-loop-again Inv-loop μ-loop
+loop-again c = omega arith
+
+returns-4 : tie.Need-returns-4 Inv-loop μ-loop
+returns-4 c = tt
+
+pub narrow-copies-spec : {M : Type 1} → statement M
+narrow-copies-spec =
+    tie.close
+    (tie.spec
+    Inv-loop
+    μ-loop
+    nowhere-requires
+    returns
+    nowhere-requires-2
+    returns-2
+    nowhere-requires-3
+    returns-3
+    add-to
+    cast-value
+    loop-holds
+    mul-nums
+    element-write-nums
+    add-i
+    loop-less
+    loop-again
+    returns-4)
