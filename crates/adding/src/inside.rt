@@ -38,7 +38,16 @@ pub fn add_row_test(
     if let Tested::Refused(why) = short {
         return Tested::Refused(why);
     }
-    state_test(counts, u_cols, u_vals, u_ptrs, l_cols, l_vals, l_ptrs, pivots)
+    state_test(
+        counts,
+        u_cols,
+        u_vals,
+        u_ptrs,
+        l_cols,
+        l_vals,
+        l_ptrs,
+        pivots,
+    )
 }
 
 // 1, 2, 3, 5, 6 and 7 of a row that a reducer takes.
