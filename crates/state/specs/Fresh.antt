@@ -55,5 +55,6 @@ newTest p n mode o =
     ∷ startTest mode (o .u-ptrs) (o .l-ptrs)
     ∷ [])
 
+-- refused, or opened with counts of 0
 unfoldable pub new : ℕ → ℕ → Mode → Opening → Outcome Fresh Opening
 new p n mode o = unless Unopened (newTest p n mode o) o (outcome (Opened (counts mode p n 0 0 0 0)) (started mode n o))

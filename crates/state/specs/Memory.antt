@@ -21,5 +21,6 @@ memory uc uv up lc lv lp pivots = record { u-cols = uc; u-vals = uv; u-ptrs = up
 unfoldable pub atMost : ℕ → ℕ
 atMost n = cond (ltb 1048576 n) 1048576 n
 
+-- the places of a lent slice that they use
 unfoldable pub places : List ℕ → ℕ
 places xs = atMost (length xs)

@@ -18,6 +18,7 @@ use Rattle.state.specs.declared.Counts.{Counts}
 use Rattle.state.specs.declared.Mode.{Mode}
 use Rattle.state.specs.declared.Mode.the-variants.{Full, Pattern, None}
 
+-- a test that refuses
 unfoldable pub isRefused : Tested → Bool
 isRefused Good = false
 isRefused (Refused r) = true

@@ -12,9 +12,6 @@ use crate::rows::u_unsound;
 use sparse::Refusal;
 use sparse::Tested;
 
-// A column without a pivot.
-pub const MARK: u32 = 4294967295;
-
 // The most places of a slice that U and L use.
 pub const MAX_PLACES: usize = 1048576;
 

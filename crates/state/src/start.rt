@@ -11,7 +11,7 @@ ghost use Rattle.state.specs.Fresh.{counts, keeps, opening, startTest, s
 use crate::Counts;
 use crate::Fresh;
 use crate::Mode;
-use crate::inside::MARK;
+use pivots::inside::MARK;
 use sparse::MAX_ENTRIES;
 use sparse::Refusal;
 use sparse::Tested;

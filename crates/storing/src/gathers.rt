@@ -9,7 +9,7 @@ ghost use Rattle.storing.specs.Counted.{counted};
 ghost use Rattle.storing.specs.Gathers.{gathered, scaled};
 use crate::Part;
 use field::residue::mul;
-use state::inside::MARK;
+use pivots::inside::MARK;
 
 // Writes what stands at the columns from `from` up to `to`, and answers how much that is.
 pub fn gather(

@@ -19,6 +19,7 @@ pub record Upper : Type 0 where
   pub value : ℕ → ℕ → ℕ
   pub pivots : List ℕ
 
+-- U, from its lists
 unfoldable pub upper : List ℕ → List ℕ → List ℕ → List ℕ → Upper
 upper cols vals ptrs pivots = record { value = λ r j. valueIn (row ptrs cols r) (row ptrs vals r) j; pivots = pivots }
 
@@ -26,6 +27,7 @@ upper cols vals ptrs pivots = record { value = λ r j. valueIn (row ptrs cols r)
 unfoldable pub pivotAt : List ℕ → ℕ → ℕ
 pivotAt pivots c = getD pivots c 0
 
+-- the answer is None
 unfoldable pub isNone : Answer → Bool
 isNone None = true
 isNone (Accepted c) = false

@@ -11,7 +11,7 @@ ghost use Rattle.walk.specs.Step.{upper, way, climb};
 ghost use Rattle.walk.specs.declared.Answer.the-variants.{None};
 use crate::kernels::add_multiple;
 use crate::kernels::next;
-use state::inside::MARK;
+use pivots::inside::MARK;
 
 // Goes up through the columns. At an entry over a pivot, subtracts that multiple of the pivot row
 // beyond its head, and so leaves the multiple in its place. Answers the column of the first entry with
