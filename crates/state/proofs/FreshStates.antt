@@ -1,14 +1,14 @@
 -- A fresh start is a state.
 -- Assumes nothing.
-use mathlib.Core.Path.{_≡_, refl, sym, ap, _∙_}
-use mathlib.Core.Bool.{Bool, true, false, not, _&&_, _||_, cond}
-use mathlib.Core.List.{List, [], _∷_, _++_}
-use Prim.Native.Nat.{ℕ, zero, suc, _+_, _≤_, _<_}
+use mathlib.Core.Path.{_≡_, refl, ap, _∙_}
+use mathlib.Core.Bool.{true, false, cond}
+use mathlib.Core.List.{List, [], _∷_}
+use Prim.Native.Nat.{ℕ, _≤_, _<_}
 use native.Mathlib.Decide.{decLt}
 use native.Mathlib.Omega.{arith}
 use borrow.Author.Tests.{eq-eqb, lt-ltb, le-ltb, lt-leb}
-use lib.Dec.{eqb, leb, ltb}
-use lib.ListN.{length, getD, take, drop, List·getD-append}
+use lib.Dec.{leb, ltb}
+use lib.ListN.{length, getD, drop, List·getD-append}
 use Rattle.lists.specs.Find.{any}
 use Rattle.lists.specs.Onto.{_onto_}
 use Rattle.lists.specs.Table.{table}
@@ -21,10 +21,10 @@ use Rattle.sparse.specs.Refusals.{refuse, _else_, lowest, firstOf}
 use Rattle.sparse.specs.Tests.{modulusTest, sizeTest, shapeTest, rowsTest, rowsValuesTest, valuesTest, matrixTest, wellFormed, clean}
 use Rattle.sparse.specs.declared.Tested.the-variants.{Good}
 use Rattle.sparse.proofs.Cuts.{small}
-use Rattle.sparse.proofs.Firsts.{lowest-good, refuse-good}
-use Rattle.state.specs.Fresh.{Opening, opening, counts, keeps, startTest, started, newTest}
-use Rattle.state.specs.Memory.{Memory, memory, atMost, places}
-use Rattle.state.specs.State.{isRefused, headOf, headless, misplaced, uFault, uLost, uRows, uOf, crooked, patternFault, valuesFault, lFault, stateTest}
+use Rattle.sparse.proofs.Firsts.{lowest-good}
+use Rattle.state.specs.Fresh.{Opening, counts, keeps, started, newTest}
+use Rattle.state.specs.Memory.{memory, atMost, places}
+use Rattle.state.specs.State.{isRefused, misplaced, uFault, uLost, uRows, uOf, crooked, patternFault, valuesFault, lFault, stateTest}
 use Rattle.state.specs.declared.Mode.{Mode}
 use Rattle.state.specs.declared.Mode.the-variants.{Full, Pattern, None}
 use Rattle.state.proofs.Starts.{startable, first-pointer, first-of-kept}

@@ -3,7 +3,7 @@ use Prim.Native.Nat.{ℕ, _+_}
 use mathlib.Core.Bool.{Bool, true, false, not, _&&_, _||_}
 use mathlib.Core.List.{List}
 use lib.Dec.{leb, ltb, eqb}
-use lib.ListN.{length, getD, take}
+use lib.ListN.{getD, take}
 use Rattle.lists.specs.Find.{any}
 use Rattle.sparse.specs.Matrix.{Matrix, matrix}
 use Rattle.sparse.specs.Pivots.{mark}

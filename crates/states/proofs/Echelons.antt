@@ -1,18 +1,17 @@
 -- Memory that is a state: U's rows are in echelon form, and each pivot's row has its head there.
 -- Assumes nothing.
 use mathlib.Core.Path.{_≡_, refl, sym, ap, ap₂, subst, _∙_}
-use mathlib.Core.Bool.{Bool, true, false, not, _&&_, _||_}
+use mathlib.Core.Bool.{Bool, false, not, _&&_, _||_}
 use mathlib.Core.List.{List}
 use Prim.Native.Nat.{ℕ, _+_, _-_, _%_, _≤_, _<_}
 use native.Mathlib.Omega.{arith}
 use borrow.Author.Tests.{leb-false, eqb-true, not-false, ne-eqb}
 use lib.Dec.{eqb, leb}
-use lib.ListN.{length, getD, take, drop}
+use lib.ListN.{length, getD, take}
 use lib.Seq.{getD-take, ext-getD, length-take-le}
 use Rattle.lists.specs.Find.{any}
 use Rattle.lists.proofs.Find.{any-false}
-use Rattle.linear.proofs.Heads.{Heads}
-use Rattle.sparse.specs.Matrix.{Matrix, matrix, part, row, valueIn}
+use Rattle.sparse.specs.Matrix.{Matrix, matrix, part, row}
 use Rattle.sparse.specs.Pivots.{mark}
 use Rattle.sparse.specs.Tests.{clean, wellFormed}
 use Rattle.sparse.specs.declared.Tested.the-variants.{Good}
@@ -25,9 +24,9 @@ use Rattle.state.specs.Asks.{Opened}
 use Rattle.state.specs.State.{isRefused, headOf, headless, misplaced, uFault, uLost, uRows}
 use Rattle.state.proofs.Faults.{Held, lost-none, not-refused}
 use Rattle.walk.specs.Asks.{PivotRow, Pivoted}
-use Rattle.walk.specs.Step.{Upper, upper, pivotAt}
+use Rattle.walk.specs.Step.{upper, pivotAt}
 use Rattle.walk.proofs.PivotRows.{pivot-beyond}
-use Rattle.steps.specs.Setting.{Tabled, Echelon}
+use Rattle.steps.specs.Setting.{Echelon}
 
 -- a part that lies within the front is the whole list's
 part-front : (a b n : ℕ) (xs : List ℕ) → b ≤ n → n ≤ length xs → part a b (take n xs) ≡ part a b xs

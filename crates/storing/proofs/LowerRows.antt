@@ -5,12 +5,10 @@ use mathlib.Core.Bool.{Bool, true, false, not, _&&_, cond}
 use mathlib.Core.List.{List, [], _∷_, _++_, map, map-append, append-nil}
 use Prim.Native.Nat.{ℕ, zero, suc, _+_, _≤_, _<_}
 use native.Mathlib.Nat.{not-suc-le-zero}
-use native.Mathlib.Decide.{decLt}
 use native.Mathlib.Omega.{arith}
 use borrow.Author.Tests.{lt-ltb, le-ltb}
 use lib.Dec.{eqb, ltb}
 use lib.ListN.{length, getD, set, length-append, length-map}
-use Rattle.lists.specs.Gather.{gather}
 use Rattle.lists.specs.Onto.{_onto_}
 use Rattle.lists.proofs.Gathers.{gather-ext, map-gather}
 use Rattle.lists.proofs.Ontos.{onto-more, length-onto}
@@ -19,7 +17,7 @@ use Rattle.sparse.specs.Put.{colsOf, valuesOf}
 use Rattle.sparse.specs.Rows.{Entry, entry}
 use Rattle.state.specs.Fresh.{keeps}
 use Rattle.state.specs.declared.Mode.{Mode}
-use Rattle.state.specs.declared.Mode.the-variants.{Full, Pattern, None}
+use Rattle.state.specs.declared.Mode.the-variants.{Full, Pattern}
 use Rattle.walk.specs.Left.{over, multiples}
 use Rattle.walk.specs.Step.{pivotAt}
 use Rattle.storing.specs.Asks.{Gathers, Ends, Keeps}

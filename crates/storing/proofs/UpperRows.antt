@@ -1,7 +1,7 @@
 -- The new row of U: what is gathered and scaled is what is left of the row, divided by its head, without zeros.
 -- Assumes nothing.
 use mathlib.Core.Path.{_≡_, refl, sym, ap, ap₂, _∙_}
-use mathlib.Core.Logic.{_⊎_, inl, inr, ⊎-elim}
+use mathlib.Core.Logic.{⊎-elim}
 use mathlib.Core.Bool.{Bool, true, false, not, _&&_, cond, true≢false}
 use mathlib.Core.List.{List, [], _∷_, _++_, map}
 use Prim.Native.Nat.{ℕ, zero, suc, _+_, _*_, _%_, _≤_, _<_}
@@ -16,7 +16,6 @@ use Rattle.lists.specs.Find.{keep}
 use Rattle.lists.specs.Gather.{gather}
 use Rattle.lists.specs.Onto.{_onto_}
 use Rattle.lists.specs.Table.{table}
-use Rattle.lists.proofs.Find.{told}
 use Rattle.lists.proofs.Gathers.{gather-ext, keep-table, map-gather}
 use Rattle.lists.proofs.Ontos.{length-onto, take-onto}
 use Rattle.field.specs.Inverse.{inverse, Invertible}

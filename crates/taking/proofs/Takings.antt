@@ -1,14 +1,14 @@
 -- A row taken: what each call on the way asks for, and what is seen at the end.
 -- Assumes nothing.
-use mathlib.Core.Path.{_≡_, refl, sym, ap, ap₂, subst, _∙_}
+use mathlib.Core.Path.{_≡_, sym, ap, ap₂, subst, _∙_}
 use mathlib.Core.Bool.{Bool, true, false, cond}
-use mathlib.Core.List.{List, [], _∷_, map}
-use Prim.Native.Nat.{ℕ, zero, suc, _+_, _-_, _≤_, _<_}
+use mathlib.Core.List.{List, []}
+use Prim.Native.Nat.{ℕ, zero, suc, _+_, _≤_, _<_}
 use native.Mathlib.Decide.{decLt}
 use native.Mathlib.Omega.{arith}
 use borrow.Author.Tests.{lt-ltb, le-ltb}
 use lib.Dec.{ltb}
-use lib.ListN.{length, getD, drop, length-drop}
+use lib.ListN.{length, getD, length-drop}
 use Rattle.lists.specs.Table.{table}
 use Rattle.lists.proofs.Tables.{length-table, getD-table, table-ext}
 use Rattle.field.proofs.Primes.{modulus-iff}
@@ -18,24 +18,22 @@ use Rattle.sparse.specs.Put.{colsOf, valuesOf}
 use Rattle.sparse.specs.Rows.{Entry, entry, entries}
 use Rattle.meaning.proofs.RowLists.{entry-cols, entry-values}
 use Rattle.meaning.proofs.Values.{Climbs, value-elsewhere}
-use Rattle.state.specs.Fresh.{keeps}
 use Rattle.state.specs.declared.Mode.{Mode}
-use Rattle.state.specs.declared.Mode.the-variants.{Full}
 use Rattle.walk.specs.Asks.{Loads, Walks, Pivoted}
 use Rattle.walk.specs.Dense.{spread, wiped}
 use Rattle.walk.specs.Left.{restOf, limitOf, LeftFrom}
 use Rattle.walk.specs.Step.{way, climb, Taken, taken, divided, step, walked}
 use Rattle.walk.specs.Step as S
 use Rattle.walk.specs.declared.Answer.the-variants.{Accepted, None}
-use Rattle.steps.specs.Rows.{valueOf, CleanRow}
+use Rattle.steps.specs.Rows.{valueOf}
 use Rattle.steps.specs.Setting.{Inverts}
 use Rattle.steps.proofs.Copies.{step-walked}
 use Rattle.steps.proofs.Steps.{prime-inverts, step-added, step-not-added}
 use Rattle.steps.proofs.Zeros.{row-small}
 use Rattle.storing.specs.Gathers.{lRow}
 use Rattle.taking.specs.Asks.{StoresU, StoresL}
-use Rattle.taking.specs.Rows.{Shown, shown, walkedTo, storing, Takes}
-use Rattle.taking.specs.Stores.{Upper, upper, withU, Lower, lower, withL, keptEntries}
+use Rattle.taking.specs.Rows.{shown, walkedTo, storing, Takes}
+use Rattle.taking.specs.Stores.{Upper, withU, Lower, withL, keptEntries}
 use Rattle.taking.proofs.Walks.{head-free, head-stands, head-first, head-from, walked-accepted, walked-none}
 
 module _ {p n : ℕ} {mode : Mode} {rank uf lr lf : ℕ} {cols vals dense : List ℕ} {u : Upper} {l : Lower} (s : Takes p n mode rank uf lr lf cols vals dense u l) where

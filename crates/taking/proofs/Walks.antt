@@ -1,8 +1,7 @@
 -- What a walk left in dense memory is what document 01's walk comes to.
 -- Assumes nothing.
 use mathlib.Core.Path.{_≡_, refl, sym, ap, ap₂, _∙_}
-use mathlib.Core.Logic.{_⊎_, inl, inr, ⊎-elim}
-use mathlib.Core.Bool.{Bool, true, false, not, _&&_, cond, and-false}
+use mathlib.Core.Bool.{Bool, false, not, and-false}
 use mathlib.Core.List.{List, [], _∷_, _++_, append-nil}
 use Prim.Native.Nat.{ℕ, _+_, _*_, _%_, _≤_, _<_}
 use native.Mathlib.Decide.{decLt}
@@ -11,21 +10,16 @@ use borrow.Author.Tests.{eq-eqb, lt-ltb, le-ltb}
 use lib.Dec.{eqb, ltb}
 use lib.ListN.{length, getD}
 use Rattle.lists.specs.Find.{keep}
-use Rattle.lists.specs.Table.{table}
-use Rattle.lists.proofs.Tables.{getD-table, table-ext}
+use Rattle.lists.proofs.Tables.{table-ext}
 use Rattle.field.specs.Inverse.{inverse}
-use Rattle.sparse.specs.Matrix.{valueIn}
 use Rattle.sparse.specs.Pivots.{mark}
-use Rattle.sparse.specs.Put.{colsOf, valuesOf}
-use Rattle.sparse.specs.Rows.{Entry, entry, entries}
-use Rattle.walk.specs.Dense.{spread}
-use Rattle.walk.specs.Left.{over, restOf, multiples, answerOf, limitOf, Left, LeftFrom}
-use Rattle.walk.specs.Step.{Upper, pivotAt, Way, way, climb, Taken, taken, divided, ended, start, walked}
-use Rattle.walk.specs.declared.Answer.{Answer}
+use Rattle.sparse.specs.Rows.{Entry, entry}
+use Rattle.walk.specs.Left.{over, restOf, multiples, answerOf, limitOf, LeftFrom}
+use Rattle.walk.specs.Step.{Upper, pivotAt, Way, way, climb, taken, divided, ended, start, walked}
 use Rattle.walk.specs.declared.Answer.the-variants.{Accepted, None}
 use Rattle.walk.proofs.Same.{Same, climb-same}
 use Rattle.walk.proofs.Ways.{rest-free}
-use Rattle.steps.specs.Rows.{valueOf, CleanRow}
+use Rattle.steps.specs.Rows.{valueOf}
 use Rattle.steps.specs.Setting.{Begins, Echelon}
 use Rattle.steps.proofs.Ends.{accepted-begins}
 use Rattle.storing.specs.Gathers.{lRow}

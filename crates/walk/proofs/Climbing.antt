@@ -3,18 +3,15 @@
 use mathlib.Core.Path.{_≡_, refl, sym, ap, subst, _∙_}
 use mathlib.Core.Bool.{Bool, true, false, not, _&&_}
 use mathlib.Core.List.{List, []}
-use Prim.Native.Nat.{ℕ, zero, suc, _+_, _≤_, _<_}
-use native.Mathlib.Nat.{not-suc-le-zero}
+use Prim.Native.Nat.{ℕ, zero, suc, _≤_, _<_}
 use native.Mathlib.Decide.{decLt, le-ind}
-use native.Mathlib.Numerals.{add-one}
 use native.Mathlib.Omega.{arith}
 use borrow.Author.Tests.{lt-ltb, le-ltb}
-use lib.Dec.{ltb}
 use lib.ListN.{length, getD}
 use Rattle.lists.specs.Gather.{gather}
-use Rattle.walk.specs.Left.{restOf, multiples, answerOf, Left}
-use Rattle.walk.specs.Step.{Upper, pivotAt, isNone, Way, way, stopped, at, climb}
-use Rattle.walk.specs.declared.Answer.the-variants.{Accepted, None}
+use Rattle.walk.specs.Left.{multiples, answerOf, Left}
+use Rattle.walk.specs.Step.{Upper, isNone, Way, way, stopped, at, climb}
+use Rattle.walk.specs.declared.Answer.the-variants.{None}
 use Rattle.walk.proofs.Ways.{at-stopped, left-zero, rest-above}
 
 module _ (on : Bool) (p n : ℕ) (u : Upper) (w : Way) where

@@ -1,25 +1,23 @@
 -- The kernels' loops over dense memory: what they have at each turn.
 -- Assumes nothing.
 use mathlib.Core.Path.{_≡_, refl, sym, ap, _∙_}
-use mathlib.Core.Bool.{Bool, true, false, not, cond}
+use mathlib.Core.Bool.{true, false, not, cond}
 use mathlib.Core.List.{List}
-use Prim.Native.Nat.{ℕ, zero, suc, _+_, _-_, _*_, _%_, _^_, _≤_, _<_}
-use native.Mathlib.Nat.{mod-eq-of-lt, mod-add-mod, add-zero, mul-zero, mul-add, zero-add, mul-le-mul-left}
-use native.Mathlib.Decide.{decLt, ℕ-discrete}
+use Prim.Native.Nat.{ℕ, _+_, _-_, _*_, _%_, _^_, _≤_, _<_}
+use native.Mathlib.Nat.{mod-eq-of-lt, mod-add-mod, add-zero, mul-zero, zero-add, mul-le-mul-left}
+use native.Mathlib.Decide.{decLt}
 use native.Mathlib.Numerals.{add-one}
 use native.Mathlib.Omega.{arith}
 use borrow.Author.Tests.{eq-eqb, ne-eqb, lt-ltb, le-ltb}
 use lib.Dec.{eqb, ltb}
 use lib.ListN.{length, getD, set}
-use Rattle.lists.specs.Find.{least}
 use Rattle.lists.specs.Sum.{Σ}
 use Rattle.lists.specs.Table.{table}
 use Rattle.lists.proofs.Find.{least-first, least-none}
 use Rattle.lists.proofs.Sums.{sum-zero}
-use Rattle.lists.proofs.Tables.{length-table, getD-table, table-getD, table-ext, set-table}
+use Rattle.lists.proofs.Tables.{getD-table, table-getD, table-ext, set-table}
 use Rattle.sparse.specs.Matrix.{valueIn}
 use Rattle.meaning.proofs.Values.{Climbs}
-use Rattle.walk.specs.Asks.{Loads, Adds}
 use Rattle.walk.specs.Dense.{nextFrom, plusMultiple, spread, wiped}
 
 -- a product and one number more fit 64 bits

@@ -1,9 +1,8 @@
 -- The notebook modulo 7, one row each: N1 to N4, N8 and N9.
 -- Assumes nothing.
 use mathlib.Core.Path.{_≡_, refl}
-use mathlib.Core.Bool.{Bool, true, false}
-use mathlib.Core.List.{List, [], _∷_}
-use Prim.Native.Nat.{ℕ}
+use mathlib.Core.Bool.{true, false}
+use mathlib.Core.List.{[], _∷_}
 use Rattle.field.specs.Inverse.{inverse}
 use Rattle.lists.specs.Find.{least, count, keep}
 use Rattle.lists.specs.Sum.{Σ}
@@ -11,8 +10,8 @@ use Rattle.lists.specs.Table.{table}
 use Rattle.sparse.specs.Matrix.{part, row, valueIn}
 use Rattle.sparse.specs.Pivots.{mark}
 use Rattle.sparse.specs.Put.{colsOf, valuesOf}
-use Rattle.sparse.specs.Rows.{Entry, entry}
-use Rattle.walk.specs.Step.{Upper, upper, pivotAt, isNone, Taken, taken, subtract, accept, stopped, at, climb, divided, ended, start, walked, copied, direct, step}
+use Rattle.sparse.specs.Rows.{entry}
+use Rattle.walk.specs.Step.{Upper, upper, pivotAt, isNone, taken, subtract, accept, stopped, at, climb, divided, ended, start, walked, copied, direct, step}
 use Rattle.walk.specs.declared.Answer.the-variants.{Accepted, None}
 
 -- U after N1, after N2 and after N4

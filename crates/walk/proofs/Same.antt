@@ -1,6 +1,6 @@
 -- Walks of rows that agree below n agree.
 -- Assumes nothing.
-use mathlib.Core.Path.{_≡_, refl, sym, ap, ap₂, _∙_}
+use mathlib.Core.Path.{_≡_, ap, ap₂}
 use mathlib.Core.Bool.{Bool, true, false, not, _&&_, _||_, cond}
 use mathlib.Core.List.{List, [], _∷_, _++_}
 use Prim.Native.Nat.{ℕ, zero, suc, _+_, _-_, _*_, _%_, _≤_, _<_}
@@ -8,7 +8,7 @@ use native.Mathlib.Omega.{arith}
 use lib.Dec.{eqb}
 use Rattle.sparse.specs.Pivots.{mark}
 use Rattle.sparse.specs.Rows.{Entry, entry}
-use Rattle.walk.specs.Step.{Upper, pivotAt, isNone, Way, way, subtract, accept, stopped, at, climb}
+use Rattle.walk.specs.Step.{Upper, pivotAt, isNone, Way, subtract, accept, stopped, at, climb}
 use Rattle.walk.specs.declared.Answer.{Answer}
 use Rattle.walk.specs.declared.Answer.the-variants.{Accepted}
 

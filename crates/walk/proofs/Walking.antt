@@ -4,7 +4,7 @@ use mathlib.Core.Path.{_≡_, refl, sym, ap, subst, _∙_}
 use mathlib.Core.Logic.{_⊎_, inl, inr, ⊎-elim}
 use mathlib.Core.Bool.{Bool, true, false, not, cond, true≢false}
 use mathlib.Core.List.{List, []}
-use Prim.Native.Nat.{ℕ, zero, suc, _+_, _-_, _*_, _%_, _≤_, _<_}
+use Prim.Native.Nat.{ℕ, suc, _+_, _-_, _*_, _%_, _≤_, _<_}
 use native.Mathlib.Nat.{mul-zero, zero-mod}
 use native.Mathlib.Decide.{ℕ-discrete}
 use native.Mathlib.Numerals.{add-one}
@@ -18,9 +18,9 @@ use Rattle.lists.proofs.Find.{least-within, least-before, least-at}
 use Rattle.lists.proofs.Tables.{length-table, getD-table}
 use Rattle.sparse.specs.Matrix.{row, valueIn}
 use Rattle.sparse.specs.Pivots.{mark}
-use Rattle.walk.specs.Asks.{PivotRow, Pivoted, Clears, Walks}
+use Rattle.walk.specs.Asks.{PivotRow, Clears, Walks}
 use Rattle.walk.specs.Dense.{nextFrom, plusMultiple, beyond, minusRow}
-use Rattle.walk.specs.Left.{restOf, multiples, answerOf, limitOf, Left}
+use Rattle.walk.specs.Left.{restOf, limitOf, Left}
 use Rattle.walk.specs.Step.{Upper, upper, pivotAt, Way, way, stopped, at, climb}
 use Rattle.walk.specs.declared.Answer.the-variants.{None}
 use Rattle.walk.proofs.Climbing.{climb-stays, left-skip, left-start, still, goes-on, stops}

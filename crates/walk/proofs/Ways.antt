@@ -1,7 +1,7 @@
 -- One column of a walk, in document 01's words and in place: the two agree.
 -- Assumes nothing.
 use mathlib.Core.Path.{_≡_, refl, sym, ap, _∙_}
-use mathlib.Core.Bool.{Bool, true, false, not, _&&_, _||_, cond, or-true, and-false}
+use mathlib.Core.Bool.{Bool, true, false, not, _&&_, cond, or-true, and-false}
 use mathlib.Core.List.{List, [], _∷_, _++_, append-nil}
 use Prim.Native.Nat.{ℕ, zero, suc, _+_, _-_, _*_, _%_, _≤_, _<_}
 use native.Mathlib.Nat.{mod-lt, mod-eq-of-lt, mod-self, add-zero, mul-zero, mul-one}
@@ -9,14 +9,14 @@ use native.Mathlib.Decide.{decLt, ℕ-discrete}
 use native.Mathlib.Omega.{arith}
 use borrow.Author.Tests.{eq-eqb, ne-eqb, lt-ltb, le-ltb}
 use lib.Dec.{eqb, ltb}
-use lib.ListN.{length, getD}
+use lib.ListN.{getD}
 use Rattle.lists.specs.Gather.{gather}
 use Rattle.lists.specs.Table.{table}
 use Rattle.lists.proofs.Tables.{length-table, getD-table}
 use Rattle.sparse.specs.Pivots.{mark}
 use Rattle.sparse.specs.Rows.{Entry, entry}
 use Rattle.walk.specs.Left.{over, restOf, multiples, answerOf, Left}
-use Rattle.walk.specs.Step.{Upper, pivotAt, isNone, Way, way, subtract, accept, stopped, at, climb}
+use Rattle.walk.specs.Step.{Upper, pivotAt, isNone, Way, subtract, accept, stopped, at}
 use Rattle.walk.specs.declared.Answer.{Answer}
 use Rattle.walk.specs.declared.Answer.the-variants.{Accepted, None}
 

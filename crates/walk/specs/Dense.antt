@@ -1,13 +1,12 @@
 -- What the kernels do to dense memory, as plain arithmetic.
 use Prim.Native.Nat.{ℕ, _+_, _-_, _*_, _%_}
-use mathlib.Core.Bool.{Bool, true, false, not, _&&_, cond}
-use mathlib.Core.List.{List, map}
+use mathlib.Core.Bool.{not, cond}
+use mathlib.Core.List.{List}
 use lib.Dec.{ltb, eqb}
 use lib.ListN.{length, getD}
-use Rattle.lists.specs.Find.{least, keep}
+use Rattle.lists.specs.Find.{least}
 use Rattle.lists.specs.Table.{table}
 use Rattle.sparse.specs.Matrix.{part, valueIn}
-use Rattle.sparse.specs.Pivots.{mark}
 
 -- the next nonzero column from c; the length where there is none
 unfoldable pub nextFrom : List ℕ → ℕ → ℕ

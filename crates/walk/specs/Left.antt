@@ -8,7 +8,7 @@ use lib.ListN.{length, getD}
 use Rattle.lists.specs.Gather.{gather}
 use Rattle.sparse.specs.Pivots.{mark}
 use Rattle.sparse.specs.Rows.{Entry, entry}
-use Rattle.walk.specs.Step.{Upper, pivotAt, Way, way, climb}
+use Rattle.walk.specs.Step.{Upper, pivotAt, Way}
 use Rattle.walk.specs.declared.Answer.{Answer}
 use Rattle.walk.specs.declared.Answer.the-variants.{Accepted, None}
 

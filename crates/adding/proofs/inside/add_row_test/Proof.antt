@@ -1,6 +1,6 @@
 -- `add_row_test` meets its contract: each `return` gives the lowest of the tests before it.
 -- Assumes nothing.
-use mathlib.Core.Path.{refl, sym, _∙_}
+use mathlib.Core.Path.{sym, _∙_}
 use borrow.Author.Needs.{needs}
 use Rattle.sparse.proofs.Firsts.{lowest-stop, lowest-next, lowest-last}
 use Rattle.adding.specs.RowTests.{addRowTest}

@@ -1,6 +1,6 @@
 -- `row_test` meets its contract: each `return` gives the lowest of the tests before it.
 -- Assumes nothing.
-use mathlib.Core.Path.{refl, sym, _∙_}
+use mathlib.Core.Path.{refl}
 use borrow.Author.Needs.{needs}
 use borrow.Author.Tests.{eq-eqb, ne-eqb}
 use Rattle.sparse.specs.Refusals.{refuse}

@@ -1,6 +1,5 @@
 -- `short_test` meets its contract: each `return` goes by the parts of the clause before it.
 -- Assumes nothing.
-use borrow.Author.Needs.{needs}
 use borrow.Author.Tests.{lt-ltb, le-ltb}
 use Rattle.sparse.specs.Refusals.{refuse}
 use Rattle.adding.specs.RowTests.{shortTest}

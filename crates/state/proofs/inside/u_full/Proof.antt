@@ -1,7 +1,5 @@
 -- `u_full` meets its contract: each `return` goes by the parts of the clause before it.
 -- Assumes nothing.
-use mathlib.Core.Path.{sym, ap, _∙_}
-use lib.Dec.{leb}
 use borrow.Author.Needs.{needs}
 use borrow.Author.Tests.{lt-ltb, le-ltb}
 use Rattle.state.specs.Memory.{places}

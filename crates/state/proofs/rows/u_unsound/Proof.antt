@@ -1,10 +1,9 @@
 -- `u_unsound` meets its contract: each `return` goes by the parts of the test before it.
 -- Assumes nothing.
-use mathlib.Core.Path.{refl, sym, _∙_}
-use native.Mathlib.Omega.{arith}
+use mathlib.Core.Path.{sym, _∙_}
 use borrow.Author.Needs.{needs}
 use lib.Seq.{length-take-le}
-use Rattle.state.specs.State.{uLost, uFault, uRows}
+use Rattle.state.specs.State.{uLost, uRows}
 use Rattle.state.proofs.Faults.{lost-none, fault-high, held-sized}
 use Rattle.state.proofs.rows.u_unsound.Statement.{statement}
 use Rattle.state.proofs.rows.u_unsound.Tie as tie

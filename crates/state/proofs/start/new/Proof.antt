@@ -1,8 +1,8 @@
 -- `new` meets its contract: refused by its tests, or opened.
 -- Assumes nothing.
-use mathlib.Core.Path.{refl, sym, ap, _∙_}
+use mathlib.Core.Path.{sym, _∙_}
 use borrow.Author.Needs.{needs}
-use Rattle.sparse.specs.Lent.{outcome, unless}
+use Rattle.sparse.specs.Lent.{unless}
 use Rattle.state.specs.Fresh.{new}
 use Rattle.state.proofs.Starts.{startable}
 use Rattle.state.proofs.start.new.Statement.{statement}

@@ -1,10 +1,10 @@
 -- `new_test` meets its contract: each `return` gives the lowest of the tests before it.
 -- Assumes nothing.
-use mathlib.Core.Path.{refl, sym, _∙_}
+use mathlib.Core.Path.{refl}
 use borrow.Author.Needs.{needs}
 use borrow.Author.Tests.{lt-ltb, le-ltb}
 use Rattle.sparse.specs.Refusals.{refuse}
-use Rattle.sparse.proofs.Firsts.{lowest-stop, lowest-next, lowest-last, refuse-false}
+use Rattle.sparse.proofs.Firsts.{lowest-stop, lowest-next, lowest-last}
 use Rattle.state.specs.Fresh.{newTest}
 use Rattle.state.proofs.start.new_test.Statement.{statement}
 use Rattle.state.proofs.start.new_test.Tie as tie

@@ -7,7 +7,7 @@ use borrow.Author.Tests.{eq-eqb, ne-eqb}
 use native.Mathlib.Omega.{arith}
 use lib.ListN.{length}
 use Rattle.sparse.specs.Refusals.{refuse}
-use Rattle.state.specs.Fresh.{keeps, startTest}
+use Rattle.state.specs.Fresh.{startTest}
 use Rattle.state.proofs.start.start_test.Statement.{statement}
 use Rattle.state.proofs.start.start_test.Tie as tie
 

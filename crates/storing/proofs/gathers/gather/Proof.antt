@@ -1,10 +1,9 @@
 -- `gather` meets its contract. The loop's invariant: what stands below `col` is written.
 -- Assumes nothing.
-use mathlib.Core.Path.{_≡_, refl, sym, ap₂, _∙_}
-use Prim.Native.Nat.{_-_, _≤_}
+use mathlib.Core.Path.{sym, ap₂, _∙_}
+use Prim.Native.Nat.{_-_}
 use native.Mathlib.Omega.{arith}
 use borrow.Author.Tests.{not-true, not-false}
-use lib.ListN.{length}
 use Rattle.storing.specs.Gathers.{stands, told, gathered}
 use Rattle.storing.specs.Counted.{counted}
 use Rattle.storing.proofs.Gathering.{Gathered, gathered-none, gathered-miss, gathered-slot, gathered-hit, gathered-all}

@@ -1,9 +1,9 @@
 -- `is_standing` meets its contract, variant by variant.
 -- Assumes nothing.
-use mathlib.Core.Path.{sym, ap, _∙_}
+use mathlib.Core.Path.{ap}
 use mathlib.Core.Bool.{not, and-true}
 use borrow.Author.Needs.{needs}
-use borrow.Author.Tests.{eq-eqb, ne-eqb}
+use borrow.Author.Tests.{ne-eqb}
 use Rattle.storing.specs.Gathers.{stands}
 use Rattle.storing.proofs.Gathering.{stands-zero}
 use Rattle.storing.proofs.gathers.is_standing.Statement.{statement}

@@ -1,9 +1,9 @@
 -- `scale` meets its contract. The loop's invariant: the first k entries are written.
 -- Assumes nothing.
-use mathlib.Core.Path.{_≡_, refl, sym, _∙_}
+use mathlib.Core.Path.{_≡_, refl, _∙_}
 use Prim.Native.Nat.{_-_, _≤_}
 use native.Mathlib.Omega.{arith}
-use lib.ListN.{length, getD, take, length-set}
+use lib.ListN.{length, take, length-set}
 use Rattle.lists.specs.Onto.{_onto_}
 use Rattle.lists.proofs.Ontos.{copy-none}
 use Rattle.storing.specs.Gathers.{scaled}

@@ -1,6 +1,6 @@
 -- `write_l` meets its contract, by what is kept.
 -- Assumes nothing.
-use mathlib.Core.Path.{refl, ap, _∙_}
+use mathlib.Core.Path.{ap}
 use borrow.Author.Needs.{needs}
 use Rattle.state.specs.Fresh.{keeps}
 use Rattle.storing.specs.Counted.{keptRow}

@@ -1,6 +1,5 @@
 -- `store_u` meets its contract: the free parts of U are lent to the row's writer.
 -- Assumes nothing.
-use native.Mathlib.Omega.{arith}
 use borrow.Author.Needs.{needs}
 use Rattle.taking.proofs.Storing.{part-heads, part-stored, fill-fits}
 use Rattle.taking.proofs.stores.store_u.Statement.{statement}

@@ -1,9 +1,9 @@
 -- `load` meets its contract. The loop's invariant: the first k entries are in.
 -- Assumes nothing.
-use mathlib.Core.Path.{_≡_, refl, sym, ap, _∙_}
+use mathlib.Core.Path.{_≡_, refl, _∙_}
 use Prim.Native.Nat.{_-_, _≤_}
 use native.Mathlib.Omega.{arith}
-use lib.ListN.{length, getD, length-set}
+use lib.ListN.{length, length-set}
 use Rattle.lists.specs.Table.{table}
 use Rattle.walk.proofs.DenseLaws.{partly, load-none, load-more, load-all}
 use Rattle.walk.proofs.kernels.load.Statement.{statement}
