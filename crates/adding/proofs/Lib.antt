@@ -1,1 +1,3 @@
+pub mod Promises
 pub mod RowsTested
+pub mod Takes

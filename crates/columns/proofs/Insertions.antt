@@ -31,7 +31,8 @@ use Rattle.columns.specs.declared.Widened.the-variants.{Columns}
 use Rattle.columns.proofs.Above.{count-front, count-back, count-wider}
 use Rattle.columns.proofs.Passed.{Insertable, insertable}
 
-getD-map : (f : ℕ → ℕ) (xs : List ℕ) (k : ℕ) → k < length xs → getD (map f xs) k 0 ≡ f (getD xs k 0)
+-- what is made of each element, at a place
+pub getD-map : (f : ℕ → ℕ) (xs : List ℕ) (k : ℕ) → k < length xs → getD (map f xs) k 0 ≡ f (getD xs k 0)
 getD-map f [] k h = absurd (not-suc-le-zero h)
 getD-map f (x ∷ xs) zero h = refl
 getD-map f (x ∷ xs) (suc k) h = getD-map f xs k (omega arith)
@@ -122,7 +123,8 @@ same-test ps a c = go (ℕ-discrete a c)
     go (yes e) = eq-eqb (moved ps a) (moved ps c) (ap (moved ps) e) ∙ sym (eq-eqb a c e)
     go (no e) = ne-eqb (moved ps a) (moved ps c) (λ q. e (moved-apart ps a c q)) ∙ sym (ne-eqb a c e)
 
-value-moved : (ps cols vals : List ℕ) (c : ℕ) → valueIn (map (moved ps) cols) vals (moved ps c) ≡ valueIn cols vals c
+-- a row's value moves with its column
+pub value-moved : (ps cols vals : List ℕ) (c : ℕ) → valueIn (map (moved ps) cols) vals (moved ps c) ≡ valueIn cols vals c
 unfolding valueIn
 value-moved ps cols vals c =
     ap (λ (n : ℕ). Σ n (λ k. cond (eqb (getD (map (moved ps) cols) k 0) (moved ps c)) (getD vals k 0) 0)) (length-map cols (moved ps))
@@ -133,21 +135,22 @@ pub value-old : (m : Matrix) (ps : List ℕ) (i c : ℕ) → valueAt (widened m 
 unfolding valueAt row
 value-old m ps i c = rw map-part (value-moved ps _ _ c)
 
--- a new column holds 0
-pub value-new : (m : Matrix) (ps : List ℕ) → NotFalling ps → (i k : ℕ) → k < length ps → valueAt (widened m ps) i (getD ps k 0 + k) ≡ 0
-unfolding valueAt row
-value-new m ps sorted i k h = rw map-part (value-elsewhere _ _ (getD ps k 0 + k) apart)
+-- a new column holds 0, in a row
+pub value-inserted : (ps cols vals : List ℕ) → NotFalling ps → (k : ℕ) → k < length ps → valueIn (map (moved ps) cols) vals (getD ps k 0 + k) ≡ 0
+value-inserted ps cols vals sorted k h = value-elsewhere (map (moved ps) cols) vals (getD ps k 0 + k) apart
   where
-    cols : List ℕ
-    cols = part (getD (m .row-ptrs) i 0) (getD (m .row-ptrs) (i + 1) 0) (m .col-idcs)
-
     apart : (e : ℕ) → e < length (map (moved ps) cols) → getD (map (moved ps) cols) e 0 ≡ getD ps k 0 + k → ⊥
     apart e l q =
         let below : e < length cols = rw length-map at l in
         new-apart ps sorted k h (getD cols e 0) (sym (getD-map (moved ps) cols e below) ∙ q)
 
+-- and in a matrix
+pub value-new : (m : Matrix) (ps : List ℕ) → NotFalling ps → (i k : ℕ) → k < length ps → valueAt (widened m ps) i (getD ps k 0 + k) ≡ 0
+unfolding valueAt row
+value-new m ps sorted i k h = rw map-part (value-inserted ps (row (m .row-ptrs) (m .col-idcs) i) _ sorted k h)
+
 -- columns that climb go on climbing
-climbs-moved : (n : ℕ) (ps cols : List ℕ) → Climbs n cols → Climbs (n + length ps) (map (moved ps) cols)
+pub climbs-moved : (n : ℕ) (ps cols : List ℕ) → Climbs n cols → Climbs (n + length ps) (map (moved ps) cols)
 climbs-moved n ps cols c = record { below = low; rises = up }
   where
     low : (k : ℕ) → k < length (map (moved ps) cols) → getD (map (moved ps) cols) k 0 < n + length ps

@@ -50,6 +50,13 @@ not-falling n ps e = record { order = up }
         go (yes b) ih = let same : i ≡ suc j = omega arith in rw same (omega arith)
         go (no b) ih = omega (arith, ih (omega arith) (omega arith), position-step n ps j (each-good (length ps) (positionTest n ps) e (suc j) h))
 
+-- and none is above the column count
+pub position-low : (n : ℕ) (ps : List ℕ) → positionsTest n ps ≡ Good → (k : ℕ) → k < length ps → getD ps k 0 ≤ n
+unfolding positionsTest positionTest
+position-low n ps e k h =
+    ltb-false n (getD ps k 0)
+    (neither (ltb n (getD ps k 0)) (ltb 0 k && not (inOrder (getD ps (k - 1) 0) (getD ps k 0))) (refuse-good _ _ (each-good (length ps) (positionTest n ps) e k h)) .0)
+
 -- all tests of `add_cols` find nothing
 pub record Insertable (p : ℕ) (m : Matrix) (ps : List ℕ) : Type 0 where
   pub modulus : modulusTest p ≡ Good

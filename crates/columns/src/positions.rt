@@ -72,7 +72,7 @@ fn add_cols_test(
 }
 
 // 2 with so many more columns. Their number may be as long as a slice: the sum waits for its limit.
-fn wider_test(nrows: u32, ncols: u32, entries: usize, more: usize) -> Tested
+pub fn wider_test(nrows: u32, ncols: u32, entries: usize, more: usize) -> Tested
     requires { ⌜ ncols ≤ 1024 ⌝ }
     ensures { λ r. ⌜ r ≡ sizeTest 65536 nrows (ncols + more) entries ⌝ }
 {

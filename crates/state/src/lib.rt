@@ -5,7 +5,7 @@
 pub mod inside;
 mod multipliers;
 mod rows;
-mod start;
+pub mod start;
 
 use sparse::Refusal;
 pub use start::new;

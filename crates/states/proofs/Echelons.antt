@@ -29,7 +29,7 @@ use Rattle.walk.proofs.PivotRows.{pivot-beyond}
 use Rattle.steps.specs.Setting.{Echelon}
 
 -- a part that lies within the front is the whole list's
-part-front : (a b n : ℕ) (xs : List ℕ) → b ≤ n → n ≤ length xs → part a b (take n xs) ≡ part a b xs
+pub part-front : (a b n : ℕ) (xs : List ℕ) → b ≤ n → n ≤ length xs → part a b (take n xs) ≡ part a b xs
 part-front a b n xs h fits =
     let short : length (take n xs) ≡ n = length-take-le n xs fits in
     let front : length (part a b (take n xs)) ≡ b - a = length-part a b (take n xs) (omega arith) in
@@ -49,18 +49,21 @@ module _ (p n rank fill : ℕ) (cols vals ptrs pivots : List ℕ) (o : Opened p 
   unfolding uFault uRows
   faults = neither _ _ sound
 
+  pub state-clean : clean 1048576 p u ≡ Good
+  state-clean = not-refused _ (neither (isRefused (clean 1048576 p u)) (any rank (headless u pivots)) (faults .0) .0)
+
   tidy : wellFormed 1048576 p u ≡ Good
   unfolding clean
-  tidy = lowest-good _ _ (not-refused _ (neither (isRefused (clean 1048576 p u)) (any rank (headless u pivots)) (faults .0) .0)) .0
+  tidy = lowest-good _ _ state-clean .0
 
-  lies : Laid u
+  pub lies : Laid u
   lies = formed-laid 1048576 p u tidy
 
   -- pointers, entries and heads, as they stand in memory
-  ptr : (r : ℕ) → r ≤ rank → getD (take (rank + 1) ptrs) r 0 ≡ getD ptrs r 0
+  pub ptr : (r : ℕ) → r ≤ rank → getD (take (rank + 1) ptrs) r 0 ≡ getD ptrs r 0
   ptr r h = getD-take (rank + 1) ptrs r 0 (omega arith)
 
-  within : (r : ℕ) → r < rank → Within (getD ptrs r 0) (getD ptrs (r + 1) 0) fill
+  pub within : (r : ℕ) → r < rank → Within (getD ptrs r 0) (getD ptrs (r + 1) 0) fill
   within r h =
       let w : Within (getD (take (rank + 1) ptrs) r 0) (getD (take (rank + 1) ptrs) (r + 1) 0) (length (take fill vals)) = row-in (lies .rows) h in
       record { rises = omega (arith, w .rises, ptr r (omega arith), ptr (r + 1) (omega arith)); fits = omega (arith, w .fits, ptr (r + 1) (omega arith), length-take-le fill vals (held .numbers)) }

@@ -59,11 +59,11 @@ accepted-join (t ∷ ts) us = go (not (isNone (t .answer))) (accepted-join ts us
     go true e = ap (λ (l : List (List Entry)). t .row ∷ l) e
     go false e = e
 
-accepted-same : (ts : List Told) (es : List Entry) → accepted (ts ++ (told es None ∷ [])) ≡ accepted ts
+pub accepted-same : (ts : List Told) (es : List Entry) → accepted (ts ++ (told es None ∷ [])) ≡ accepted ts
 unfolding accepted keep isNone
 accepted-same ts es = accepted-join ts (told es None ∷ []) ∙ append-nil (accepted ts)
 
-accepted-more : (ts : List Told) (es : List Entry) (g : ℕ) → accepted (ts ++ (told es (Accepted g) ∷ [])) ≡ accepted ts ++ (es ∷ [])
+pub accepted-more : (ts : List Told) (es : List Entry) (g : ℕ) → accepted (ts ++ (told es (Accepted g) ∷ [])) ≡ accepted ts ++ (es ∷ [])
 unfolding accepted keep isNone
 accepted-more ts es g = accepted-join ts (told es (Accepted g) ∷ [])
 

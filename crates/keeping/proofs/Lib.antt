@@ -1,0 +1,14 @@
+pub mod Accepts
+pub mod Denses
+pub mod Grows
+pub mod Keeps
+pub mod Lowers
+pub mod Modes
+pub mod Nexts
+pub mod Pasts
+pub mod Places
+pub mod Puts
+pub mod Settings
+pub mod Storables
+pub mod Uppers
+pub mod Ways

@@ -1,0 +1,1 @@
+// Laws only: a row's step leaves a state, whatever its answer.

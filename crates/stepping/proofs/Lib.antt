@@ -1,0 +1,4 @@
+pub mod Clears
+pub mod Offers
+pub mod Room
+pub mod Walks

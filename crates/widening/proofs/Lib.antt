@@ -1,0 +1,10 @@
+pub mod Combinations
+pub mod Downwards
+pub mod Makes
+pub mod Notebook
+pub mod Passed
+pub mod Promises
+pub mod Spreading
+pub mod Spreads
+pub mod Stands
+pub mod Stretches

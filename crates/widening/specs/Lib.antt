@@ -1,0 +1,3 @@
+pub mod AddCols
+pub mod Asks
+pub mod Inserted
