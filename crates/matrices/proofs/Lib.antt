@@ -1,1 +1,2 @@
 pub mod Nights
+pub mod Promises
