@@ -4,7 +4,7 @@ ones, good and damaged. The same count and seed give the same cases."""
 import random
 
 import form
-from calls import CALLS, TABLE
+from calls import TABLE
 
 # Each is malformed by the text form as README.md has it.
 MALFORMED = (
@@ -44,9 +44,8 @@ def line(call, args):
     return form.write_case(call.name, args)
 
 
-def written_out(text):
+def written_out(call, args):
     """The same case with no `v*n`, to try the other way of writing it."""
-    call, args = form.read_case(text, CALLS)
     words = [",".join(map(str, a)) or "-" if isinstance(a, list) else str(a) for a in args]
     return " ".join([call.name] + words)
 
@@ -108,8 +107,8 @@ def damaged(rng, call, args, times):
 def random_case(rng, call):
     """Half are good or nearly so, half are damaged copies of good ones."""
     times = rng.choice((0, 0, 0, 1, 1, 2, 3))
-    text = line(call, damaged(rng, call, call.good(rng), times))
-    return written_out(text) if rng.random() < 0.2 else text
+    args = damaged(rng, call, call.good(rng), times)
+    return written_out(call, args) if rng.random() < 0.2 else line(call, args)
 
 
 def fixed_cases():

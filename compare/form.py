@@ -12,8 +12,8 @@ class Malformed(Exception):
 
 
 # What an argument may be. `bound` is one more than the largest number; `pool` holds numbers that
-# are worth trying in its place.
-Kind = namedtuple("Kind", "bound is_list pool")
+# are worth trying in its place; a list has at most `longest` elements.
+Kind = namedtuple("Kind", "bound is_list pool longest", defaults=(MOST_ELEMENTS,))
 
 EDGES = (0, 1, 2, 3, 2**31 - 1, 2**31, 2**32 - 2, 2**32 - 1)
 MODULUS = Kind(2**32, False, (0, 1, 2, 3, 4, 5, 7, 9, 15, 46337**2) + EDGES)
@@ -24,6 +24,17 @@ VALUES = Kind(2**32, True, EDGES)
 PIVOTS = Kind(2**32, True, (0, 1, 2, 3, 1024, 2**32 - 2, 2**32 - 1, 2**32 - 1, 2**32 - 1))
 BYTES = Kind(2**8, True, (0, 48, 123, 255))
 POINTERS = Kind(2**64, True, (65535, 65536, 65537, 2**32, 2**32 + 1, 2**64 - 1) + EDGES)
+
+# Of a reducer's cases: its counts, the lists of U's and L's entries, and the other lent lists.
+MOST_OF_U_AND_L = 180_000
+MOST_PLACES = 2_000
+MODE = Kind(3, False, (0, 1, 2))
+COUNT = Kind(2**64, False, (1024, 1025, 2**20, 2**32, 2**64 - 1) + EDGES)
+U_COLUMNS = COLUMNS._replace(longest=MOST_OF_U_AND_L)
+U_VALUES = VALUES._replace(longest=MOST_OF_U_AND_L)
+PLACES = VALUES._replace(longest=MOST_PLACES)
+PIVOT_PLACES = PIVOTS._replace(longest=MOST_PLACES)
+POINTER_PLACES = POINTERS._replace(longest=MOST_PLACES)
 
 
 def read_number(word, bound):
@@ -36,21 +47,21 @@ def read_number(word, bound):
     return number
 
 
-def read_list(word, bound):
+def read_list(word, bound, longest=MOST_ELEMENTS):
     elements = []
     if word == "-":
         return elements
     for part in word.split(","):
         element, star, copies = part.partition("*")
         many = read_number(copies, 2**64) if star else 1
-        if many > MOST_ELEMENTS - len(elements):
+        if many > longest - len(elements):
             raise Malformed
         elements.extend([read_number(element, bound)] * many)
     return elements
 
 
 def read_argument(kind, word):
-    return read_list(word, kind.bound) if kind.is_list else read_number(word, kind.bound)
+    return read_list(word, kind.bound, kind.longest) if kind.is_list else read_number(word, kind.bound)
 
 
 def read_case(line, calls):

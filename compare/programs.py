@@ -11,7 +11,7 @@ import form
 HERE = Path(__file__).resolve().parent
 ROOT = HERE.parent
 TARGET = ROOT / "target" / "compare"
-REPLAY = ROOT / "target" / "bin" / "replay"
+BIN = ROOT / "target" / "bin"
 NO_ANSWER = "(no answer)"
 NO_CASE = "(no case)"
 
@@ -38,15 +38,17 @@ def second():
     return [sys.executable, str(HERE / "second.py")]
 
 
-def replay():
-    if not REPLAY.exists():
-        subprocess.run(["rt", "check", "replay"], cwd=ROOT)
-    if not REPLAY.exists():
-        stop("there is no target/bin/replay, and `rt check replay` made none")
+def replay(name="replay"):
+    """Our program: replay, or replay_rows."""
+    program = BIN / name
+    if not program.exists():
+        subprocess.run(["rt", "check", name], cwd=ROOT)
+    if not program.exists():
+        stop(f"there is no target/bin/{name}, and `rt check {name}` made none")
     sources = [path for path in (ROOT / "crates").rglob("*.rt")]
-    if any(path.stat().st_mtime > REPLAY.stat().st_mtime for path in sources):
-        print("compare: target/bin/replay is older than a source; `rt check replay` renews it", file=sys.stderr)
-    return [str(REPLAY)]
+    if any(path.stat().st_mtime > program.stat().st_mtime for path in sources):
+        print(f"compare: target/bin/{name} is older than a source; `rt check {name}` renews it", file=sys.stderr)
+    return [str(program)]
 
 
 def run(command, lines, loud=True):

@@ -6,9 +6,7 @@ of each set, so that every number and every pair is met alone and not only by lu
 
 import random
 from collections import defaultdict
-from itertools import combinations
 
-import form
 import makers
 from cases import MALFORMED, SKIPPED, damaged, line
 from calls import CALLS, TABLE, TESTS
@@ -307,16 +305,3 @@ def groups():
     yield from known(PLAIN)
     yield "Malformed lines are answered `bad`, and the run goes on.", [*MALFORMED, "prime 7"]
     yield "Empty lines and comments are not answered.", [*SKIPPED, "prime 7"]
-
-
-def pairs(call):
-    return list(combinations(call.gives, 2))
-
-
-def judged(text):
-    """The call and the numbers that apply; None of a malformed line."""
-    try:
-        call, args = form.read_case(text, CALLS)
-    except form.Malformed:
-        return None
-    return call, args, call.numbers_of(*args)

@@ -30,6 +30,10 @@ def replaced(args, k, argument):
     return args[:k] + [argument] + args[k + 1:]
 
 
+def holds_pointers(kind):
+    return kind.is_list and kind.bound == POINTERS.bound
+
+
 def drops(args):
     """A chunk dropped from one list."""
     for k, argument in enumerate(args):
@@ -40,14 +44,14 @@ def drops(args):
 
 def entry_drops(kinds, args):
     """The same chunk dropped from all lists of one length, with the pointers past it lowered."""
-    lengths = {len(a) for a, kind in zip(args, kinds) if kind.is_list and kind is not POINTERS}
+    lengths = {len(a) for a, kind in zip(args, kinds) if kind.is_list and not holds_pointers(kind)}
     for length in sorted(lengths):
         for start, stop in chunks(length):
             yield [moved(kind, a, length, start, stop) for kind, a in zip(kinds, args)]
 
 
 def moved(kind, argument, length, start, stop):
-    if kind is POINTERS:
+    if holds_pointers(kind):
         return [max(start, a - (stop - start)) if a > start else a for a in argument]
     if kind.is_list and len(argument) == length:
         return without(argument, start, stop)
@@ -58,7 +62,7 @@ def row_drops(kinds, args):
     """A chunk of pointers dropped and a count lowered by as many."""
     counts = [k for k, a in enumerate(args) if not isinstance(a, list)]
     for j, kind in enumerate(kinds):
-        if kind is POINTERS:
+        if holds_pointers(kind):
             for start, stop in chunks(len(args[j])):
                 fewer = replaced(args, j, without(args[j], start, stop))
                 yield from (
@@ -105,10 +109,10 @@ def batches(tried):
         yield batch
 
 
-def smallest(line, seen):
+def smallest(line, seen, calls=CALLS):
     """The smallest case found. `seen` says of each of some lines whether it shows the difference."""
     try:
-        call, args = form.read_case(line, CALLS)
+        call, args = form.read_case(line, calls)
     except form.Malformed:
         return line
     until = time.monotonic() + MOST_SECONDS

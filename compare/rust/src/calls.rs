@@ -5,7 +5,7 @@
 use std::panic::{AssertUnwindSafe, catch_unwind};
 
 use crate::{
-    matrices, quiet,
+    matrices, quiet, reducer,
     tensors::sparse::{SparseMatrix, SparseVector},
     words::{Words, list},
     zp::Zp,
@@ -34,6 +34,11 @@ const CALLS: &[(&str, Call)] = &[
     ("is_one", matrices::is_one),
     ("fmt_mma", matrices::fmt_mma),
     ("fmt_mma_vector", matrices::fmt_mma_vector),
+    ("sequence_new", reducer::new),
+    ("sequence_add_row", reducer::add_row),
+    ("sequence_add_matrix", reducer::add_matrix),
+    ("sequence_from_matrix", reducer::from_matrix),
+    ("sequence_check_dependent", reducer::check_dependent),
 ];
 
 const NOTHING_TO_RUN: &str = "-";

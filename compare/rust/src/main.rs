@@ -5,6 +5,7 @@ mod domains;
 mod matrices;
 mod printer;
 mod quiet;
+mod reducer;
 mod tensors;
 mod words;
 mod zp;

@@ -9,16 +9,16 @@ use crate::{
     zp::Zp,
 };
 
-type Matrix = SparseMatrix<Zp>;
+pub type Matrix = SparseMatrix<Zp>;
 type Vector = SparseVector<Zp>;
 
 /// What a pivot table holds where no row is named.
-const NO_ROW: u32 = u32::MAX;
+pub const NO_ROW: u32 = u32::MAX;
 
 // ---- words
 
 /// The five words of a matrix, not yet tested.
-struct Parts {
+pub struct Parts {
     nrows: u32,
     ncols: u32,
     row_ptrs: Vec<usize>,
@@ -26,7 +26,7 @@ struct Parts {
     values: Vec<u32>,
 }
 
-fn parts(words: &mut Words) -> Option<Parts> {
+pub fn parts(words: &mut Words) -> Option<Parts> {
     Some(Parts {
         nrows: words.number()?,
         ncols: words.number()?,
@@ -37,7 +37,7 @@ fn parts(words: &mut Words) -> Option<Parts> {
 }
 
 impl Parts {
-    fn tested(self, field: Zp) -> Result<Matrix, String> {
+    pub fn tested(self, field: Zp) -> Result<Matrix, String> {
         SparseMatrix::try_from_csr(
             self.nrows,
             self.ncols,

@@ -86,6 +86,14 @@ pub fn put_built(out: &mut [u8; ROOM], fill: usize, built: Built) -> usize {
     }
 }
 
+// Ends the answer's line. A malformed case has put nothing before.
+pub fn end(said: Said, out: &mut [u8; ROOM], fill: usize) -> usize {
+    let Said::To(fill) = said else {
+        return put(out, fill, b"bad\n");
+    };
+    put(out, fill, b"\n")
+}
+
 // A lent list after the call.
 pub fn put_list(out: &mut [u8; ROOM], fill: usize, list: &[u32]) -> usize {
     let mut run = no_run(fill);

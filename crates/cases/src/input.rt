@@ -4,6 +4,9 @@ ghost use Prim.Native.Nat.{_+_, _≤_};
 ghost use lib.ListN.{length};
 use words::seek;
 
+// The longest line of a case.
+const LONGEST: usize = 1000000;
+
 // Between two steps: the line that is ready is from `start` up to `stop`, and is empty where none
 // is; the text from `next` up to `end` waits. `long` says that what waits belongs to a line that
 // did not fit, and `done` that the input has ended.
@@ -114,4 +117,22 @@ fn move_front(text: &mut [u8], from: usize, n: usize)
         text[i] = text[from + i];
         i += 1;
     }
+}
+
+// The case from `start` up to `stop`; nothing of an empty line or a comment. Of a line that is too
+// long, its first byte, which is no case.
+pub fn case_of(lines: &[u8], start: usize, stop: usize) -> &[u8] {
+    if start >= stop {
+        return &lines[0..0];
+    }
+    if stop > lines.len() {
+        return &lines[0..0];
+    }
+    if lines[start] == b'#' {
+        return &lines[0..0];
+    }
+    if stop - start > LONGEST {
+        return &lines[start..start + 1];
+    }
+    &lines[start..stop]
 }

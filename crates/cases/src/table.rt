@@ -1,22 +1,21 @@
 // Cases of a family of calls. The family's table has a row for each call: its name, a space, a
-// letter for each of its words, and a line feed. The letters are n for a number, l for a list and p
-// for a list of pointers.
+// letter for each of its words, and a line feed. The letters are n for a number, w for a number of the
+// pointers' size, l for a list and p for a list of pointers.
 use words::NOWHERE;
-use words::NUMBERS;
-use words::POINTERS;
 use words::Place;
 use words::nowhere;
 use words::past;
 use words::read_list;
 use words::read_number;
+use words::read_wide;
 use words::seek;
 
 // The most words of a case.
-const MOST_WORDS: usize = 14;
+const MOST_WORDS: usize = 21;
 
 // The first pointers of a line's memory are no word's: they note where each word starts, by two
 // places, in the numbers and in the pointers, and where the last one ends.
-const MARKS: usize = 30;
+const MARKS: usize = 44;
 
 // A case that was read: the row of its call in the table, and how many words follow the name.
 pub struct Case {
@@ -44,12 +43,14 @@ pub fn has_call(line: &[u8], table: &[u8]) -> bool {
     row.call != NOWHERE
 }
 
-// Reads a case of one of the table's calls; NOWHERE as its call where the line is none.
+// Reads a case of one of the table's calls, its lists of at most `long` elements; NOWHERE as its
+// call where the line is none.
 pub fn read_case(
     line: &[u8],
     table: &[u8],
-    nums: &mut [u32; NUMBERS],
-    wides: &mut [usize; POINTERS],
+    long: usize,
+    nums: &mut [u32],
+    wides: &mut [usize],
 ) -> Case {
     let row = find(line, table);
     let call = row.call;
@@ -60,7 +61,7 @@ pub fn read_case(
     if letters > table.len() {
         return no_case();
     }
-    read_words(line, row.at, call, &table[letters..], nums, wides)
+    read_words(line, row.at, call, &table[letters..], long, nums, wides)
 }
 
 fn no_case() -> Case {
@@ -115,8 +116,9 @@ fn read_words(
     at: usize,
     call: usize,
     letters: &[u8],
-    nums: &mut [u32; NUMBERS],
-    wides: &mut [usize; POINTERS],
+    long: usize,
+    nums: &mut [u32],
+    wides: &mut [usize],
 ) -> Case {
     let mut place = Place {
         at,
@@ -128,7 +130,7 @@ fn read_words(
         if letters[k] == b'\n' {
             return ended(line, place, call, k);
         }
-        place = read_word(line, place, letters[k], nums, wides);
+        place = read_word(line, place, letters[k], long, nums, wides);
     }
     no_case()
 }
@@ -144,15 +146,15 @@ fn ended(line: &[u8], place: Place, call: usize, words: usize) -> Case {
     Case { call, words }
 }
 
-fn note(wides: &mut [usize; POINTERS], k: usize, place: Place) {
+fn note(wides: &mut [usize], k: usize, place: Place) {
     if k <= MOST_WORDS {
         set(wides, 2 * k, place.nums);
         set(wides, 2 * k + 1, place.wides);
     }
 }
 
-fn set(wides: &mut [usize; POINTERS], at: usize, to: usize) {
-    if at < POINTERS {
+fn set(wides: &mut [usize], at: usize, to: usize) {
+    if at < wides.len() {
         wides[at] = to;
     }
 }
@@ -162,32 +164,36 @@ fn read_word(
     line: &[u8],
     place: Place,
     letter: u8,
-    nums: &mut [u32; NUMBERS],
-    wides: &mut [usize; POINTERS],
+    long: usize,
+    nums: &mut [u32],
+    wides: &mut [usize],
 ) -> Place {
     if letter == b'n' {
         return read_number(line, place, nums);
     }
+    if letter == b'w' {
+        return read_wide(line, place, wides);
+    }
     if letter == b'l' {
-        return read_list(line, place, false, nums, wides);
+        return read_list(line, place, false, long, nums, wides);
     }
     if letter == b'p' {
-        return read_list(line, place, true, nums, wides);
+        return read_list(line, place, true, long, nums, wides);
     }
     nowhere(place)
 }
 
 // The number that is the word k.
-pub fn number(nums: &[u32; NUMBERS], wides: &[usize; POINTERS], k: usize) -> u32 {
+pub fn number(nums: &[u32], wides: &[usize], k: usize) -> u32 {
     let at = mark(wides, k, 0);
-    if at < NUMBERS {
+    if at < nums.len() {
         return nums[at];
     }
     0
 }
 
 // The first three words, where they are the modulus and the shape of a matrix.
-pub fn head(nums: &[u32; NUMBERS], wides: &[usize; POINTERS]) -> Shape {
+pub fn head(nums: &[u32], wides: &[usize]) -> Shape {
     Shape {
         p: number(nums, wides, 0),
         nrows: number(nums, wides, 1),
@@ -195,13 +201,22 @@ pub fn head(nums: &[u32; NUMBERS], wides: &[usize; POINTERS]) -> Shape {
     }
 }
 
+// The number of the pointers' size that is the word k.
+pub fn wide_number(wides: &[usize], k: usize) -> usize {
+    let at = mark(wides, k, 1);
+    if at < wides.len() {
+        return wides[at];
+    }
+    0
+}
+
 // The list that is the word k.
-pub fn list<'a>(nums: &'a [u32; NUMBERS], wides: &[usize; POINTERS], k: usize) -> &'a [u32] {
+pub fn list<'a>(nums: &'a [u32], wides: &[usize], k: usize) -> &'a [u32] {
     part(nums, mark(wides, k, 0), mark(wides, k, 2))
 }
 
 // The list of pointers that is the word k.
-pub fn pointers(wides: &[usize; POINTERS], k: usize) -> &[usize] {
+pub fn pointers(wides: &[usize], k: usize) -> &[usize] {
     wide_part(wides, mark(wides, k, 1), mark(wides, k, 3))
 }
 
@@ -225,7 +240,7 @@ fn wide_part(wides: &[usize], from: usize, to: usize) -> &[usize] {
     &wides[from..to]
 }
 
-fn mark(wides: &[usize; POINTERS], k: usize, part: usize) -> usize {
+fn mark(wides: &[usize], k: usize, part: usize) -> usize {
     if k >= MOST_WORDS {
         return 0;
     }
@@ -233,7 +248,7 @@ fn mark(wides: &[usize; POINTERS], k: usize, part: usize) -> usize {
         return 0;
     }
     let at = 2 * k + part;
-    if at < POINTERS {
+    if at < wides.len() {
         return wides[at];
     }
     0

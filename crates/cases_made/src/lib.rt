@@ -42,7 +42,7 @@ pub fn said(
     out: &mut [u8; ROOM],
     fill: usize,
 ) -> Said {
-    let case = read_case(line, &TABLE, nums, wides);
+    let case = read_case(line, &TABLE, LONG, nums, wides);
     made(case, nums, wides, ptrs, cols, vals, out, fill)
 }
 

@@ -36,7 +36,7 @@ pub fn said(
     out: &mut [u8; ROOM],
     fill: usize,
 ) -> Said {
-    let case = read_case(line, &TABLE, nums, wides);
+    let case = read_case(line, &TABLE, LONG, nums, wides);
     lent(case, nums, wides, text, out, fill)
 }
 

@@ -40,7 +40,7 @@ pub fn said(
     out: &mut [u8; ROOM],
     fill: usize,
 ) -> Said {
-    let case = read_case(line, &TABLE, nums, wides);
+    let case = read_case(line, &TABLE, LONG, nums, wides);
     lent(case, nums, wides, idcs, vals, out, fill)
 }
 

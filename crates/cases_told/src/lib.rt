@@ -5,6 +5,7 @@ use answers::ROOM;
 use answers::Said;
 use cases::table::has_call;
 use cases::table::read_case;
+use words::LONG;
 use words::NOWHERE;
 use words::NUMBERS;
 use words::POINTERS;
@@ -30,7 +31,7 @@ pub fn said(
     out: &mut [u8; ROOM],
     fill: usize,
 ) -> Said {
-    let case = read_case(line, &TABLE, nums, wides);
+    let case = read_case(line, &TABLE, LONG, nums, wides);
     if case.call == NOWHERE {
         return Said::Bad;
     }

@@ -1,7 +1,6 @@
 // The families of calls. Each is asked in turn whether the case is one of its own.
 use answers::ROOM;
-use answers::Said;
-use answers::put;
+use answers::end;
 use cases_read::texts;
 use cases_read::vectors;
 use cases_read::widening;
@@ -43,12 +42,4 @@ pub fn answer(
         );
     }
     end(texts::said(case, nums, wides, text, out, fill), out, fill)
-}
-
-// Ends the answer's line. A malformed case has put nothing before.
-fn end(said: Said, out: &mut [u8; ROOM], fill: usize) -> usize {
-    let Said::To(fill) = said else {
-        return put(out, fill, b"bad\n");
-    };
-    put(out, fill, b"\n")
 }

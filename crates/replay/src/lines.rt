@@ -1,15 +1,13 @@
 // The lines of the input, one after the other.
 use crate::calls::answer;
 use answers::ROOM;
+use cases::input::case_of;
 use cases::input::no_lines;
 use cases::input::step;
 use cases::memory::LINES;
 use words::LONG;
 use words::NUMBERS;
 use words::POINTERS;
-
-// The longest line of a case.
-const LONGEST: usize = 1000000;
 
 // Answers every line of standard input, and says how many bytes wait then. Nothing says that the
 // input ends, so the steps are counted down from a number that no run uses up.
@@ -36,22 +34,4 @@ pub fn replay(
         left -= 1;
     }
     fill
-}
-
-// The case from `start` up to `stop`; nothing of an empty line or a comment. Of a line that is too
-// long, its first byte, which is no case.
-fn case_of(lines: &[u8], start: usize, stop: usize) -> &[u8] {
-    if start >= stop {
-        return &lines[0..0];
-    }
-    if stop > lines.len() {
-        return &lines[0..0];
-    }
-    if lines[start] == b'#' {
-        return &lines[0..0];
-    }
-    if stop - start > LONGEST {
-        return &lines[start..start + 1];
-    }
-    &lines[start..stop]
 }

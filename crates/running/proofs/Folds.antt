@@ -61,7 +61,7 @@ then-over on check es (Dependent r) w e = refl
 then-over on check es (Stopped s) w e = refl
 then-over on check es (Refused why) w e = refl
 
-rows-over : (on check : Bool) (rs : List (List Entry)) (o : Outcome Reduced Written) → isOver (o .answer) ≡ true → takeRows on check rs o ≡ o
+pub rows-over : (on check : Bool) (rs : List (List Entry)) (o : Outcome Reduced Written) → isOver (o .answer) ≡ true → takeRows on check rs o ≡ o
 unfolding takeRows
 rows-over on check [] o e = refl
 rows-over on check (es ∷ rs) o e = ap (takeRows on check rs) (then-over on check es (o .answer) (o .memory) e) ∙ rows-over on check rs o e

@@ -9,7 +9,6 @@ use native.Mathlib.Omega.{arith}
 use borrow.Author.Tests.{lt-ltb, le-ltb, eq-eqb, ne-eqb, eqb-true}
 use lib.Dec.{eqb}
 use lib.ListN.{length, getD, drop, List·getD-append}
-use Rattle.lists.specs.Find.{count}
 use Rattle.lists.specs.Onto.{_onto_}
 use Rattle.lists.specs.Table.{table}
 use Rattle.lists.proofs.Find.{least-only, least-none}

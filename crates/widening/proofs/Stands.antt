@@ -17,7 +17,7 @@ use Rattle.state.specs.declared.Mode.the-variants.{Full, Pattern, None}
 use Rattle.walk.specs.Step as S
 use Rattle.stepping.specs.Asks.{Stands}
 use Rattle.stepping.specs.Take.{Lists, lists}
-use Rattle.stepping.proofs.Walks.{parts, heads, stands-echelon, rank-low}
+use Rattle.stepping.proofs.Walks.{parts, stands-echelon, rank-low}
 use Rattle.keeping.proofs.Settings.{rowsIn, parts-state, stands-upright}
 use Rattle.keeping.proofs.Uppers.{upright-sound}
 use Rattle.widening.specs.AddCols.{widerCounts, addColsTest, widened}

@@ -5,13 +5,13 @@ ghost use Prim.Native.Nat.{_≤_};
 // Past every line: each reader after one that found no word finds none either.
 pub const NOWHERE: usize = usize::MAX;
 
-// The most elements that a list may have.
+// The most elements that a list of a matrix's or a vector's case may have.
 pub const LONG: usize = 70000;
 
-// The numbers of a line: six lists of the longest, and a few numbers that stand alone.
+// The numbers of such a line: six lists of the longest, and a few numbers that stand alone.
 pub const NUMBERS: usize = 420064;
 
-// The row pointers of a line: three lists of the longest, and where each word is.
+// The row pointers of such a line: three lists of the longest, and where each word is.
 pub const POINTERS: usize = 210064;
 
 // The most digits of a number.
@@ -55,13 +55,13 @@ fn moved(place: Place, at: usize) -> Place {
 }
 
 // A number.
-pub fn read_number(line: &[u8], place: Place, nums: &mut [u32; NUMBERS]) -> Place {
+pub fn read_number(line: &[u8], place: Place, nums: &mut [u32]) -> Place {
     let to = place.nums;
     let read = digits(line, past_space(line, place.at));
     if read.value > LARGEST {
         return nowhere(place);
     }
-    if to >= NUMBERS {
+    if to >= nums.len() {
         return nowhere(place);
     }
     nums[to] = read.value as u32;
@@ -72,20 +72,36 @@ pub fn read_number(line: &[u8], place: Place, nums: &mut [u32; NUMBERS]) -> Plac
     }
 }
 
-// A list, of pointers where `wide` says so.
+// A number of the pointers' size.
+pub fn read_wide(line: &[u8], place: Place, wides: &mut [usize]) -> Place {
+    let to = place.wides;
+    let read = digits(line, past_space(line, place.at));
+    if to >= wides.len() {
+        return nowhere(place);
+    }
+    wides[to] = read.value as usize;
+    Place {
+        at: read.next,
+        nums: place.nums,
+        wides: to + 1,
+    }
+}
+
+// A list of at most `long` elements, of pointers where `wide` says so.
 pub fn read_list(
     line: &[u8],
     place: Place,
     wide: bool,
-    nums: &mut [u32; NUMBERS],
-    wides: &mut [usize; POINTERS],
+    long: usize,
+    nums: &mut [u32],
+    wides: &mut [usize],
 ) -> Place {
     let start = past_space(line, place.at);
     let dash = past(line, start, b'-');
     if dash > start {
         return moved(place, dash);
     }
-    elements(line, moved(place, start), wide, nums, wides)
+    elements(line, moved(place, start), wide, long, nums, wides)
 }
 
 // The elements from the place on. One takes a byte or more, so there are turns enough.
@@ -93,11 +109,12 @@ fn elements(
     line: &[u8],
     place: Place,
     wide: bool,
-    nums: &mut [u32; NUMBERS],
-    wides: &mut [usize; POINTERS],
+    long: usize,
+    nums: &mut [u32],
+    wides: &mut [usize],
 ) -> Place {
     let mut place = place;
-    let mut left: u64 = LONG as u64;
+    let mut left: u64 = long as u64;
     for _ in 0..line.len() {
         let run = copies(line, place.at);
         let many = run.many;
@@ -116,29 +133,23 @@ fn elements(
 }
 
 // Puts the copies into the memory of their kind.
-fn put_copies(
-    run: Run,
-    place: Place,
-    wide: bool,
-    nums: &mut [u32; NUMBERS],
-    wides: &mut [usize; POINTERS],
-) -> Place {
+fn put_copies(run: Run, place: Place, wide: bool, nums: &mut [u32], wides: &mut [usize]) -> Place {
     if wide {
         return wide_copies(run, place, wides);
     }
     narrow_copies(run, place, nums)
 }
 
-fn narrow_copies(run: Run, place: Place, nums: &mut [u32; NUMBERS]) -> Place {
+fn narrow_copies(run: Run, place: Place, nums: &mut [u32]) -> Place {
     let from = place.nums;
     let many = run.many;
     if run.value > LARGEST {
         return nowhere(place);
     }
-    if from > NUMBERS {
+    if from > nums.len() {
         return nowhere(place);
     }
-    if many > (NUMBERS - from) as u64 {
+    if many > (nums.len() - from) as u64 {
         return nowhere(place);
     }
     let to = from + many as usize;
@@ -153,13 +164,13 @@ fn narrow_copies(run: Run, place: Place, nums: &mut [u32; NUMBERS]) -> Place {
     }
 }
 
-fn wide_copies(run: Run, place: Place, wides: &mut [usize; POINTERS]) -> Place {
+fn wide_copies(run: Run, place: Place, wides: &mut [usize]) -> Place {
     let from = place.wides;
     let many = run.many;
-    if from > POINTERS {
+    if from > wides.len() {
         return nowhere(place);
     }
-    if many > (POINTERS - from) as u64 {
+    if many > (wides.len() - from) as u64 {
         return nowhere(place);
     }
     let to = from + many as usize;

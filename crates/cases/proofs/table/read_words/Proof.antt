@@ -8,10 +8,10 @@ use Rattle.cases.proofs.table.read_words.Statement.{statement}
 use Rattle.cases.proofs.table.read_words.Tie as tie
 
 abbrev Inv-loop : tie.InvT-loop
-Inv-loop line at call letters nums₀ wides₀ place₀ k₀ k-end nums wides place k = (k ≤ k-end) × (k-end ≡ length letters)
+Inv-loop line at call letters long nums₀ wides₀ place₀ k₀ k-end nums wides place k = (k ≤ k-end) × (k-end ≡ length letters) × (length nums ≡ length nums₀) × (length wides ≡ length wides₀)
 
 abbrev μ-loop : tie.MeasureT-loop
-μ-loop line at call letters nums₀ wides₀ place₀ k₀ k-end nums wides place k = k-end - k
+μ-loop line at call letters long nums₀ wides₀ place₀ k₀ k-end nums wides place k = k-end - k
 
 loop-holds : tie.Need-loop-holds Inv-loop μ-loop
 loop-holds c = omega arith
@@ -24,6 +24,12 @@ shared-slice-read-if1 c = omega arith
 
 ended-requires : tie.Need-ended-requires Inv-loop μ-loop
 ended-requires c κs = tt
+
+same-length : tie.Need-same-length Inv-loop μ-loop
+same-length c = omega arith
+
+same-length-2 : tie.Need-same-length-2 Inv-loop μ-loop
+same-length-2 c = omega arith
 
 returns : tie.Need-returns Inv-loop μ-loop
 returns c = tt
@@ -46,6 +52,12 @@ loop-again c = omega arith
 no-case-requires : tie.Need-no-case-requires Inv-loop μ-loop
 no-case-requires c κs = tt
 
+same-length-3 : tie.Need-same-length-3 Inv-loop μ-loop
+same-length-3 c = omega arith
+
+same-length-4 : tie.Need-same-length-4 Inv-loop μ-loop
+same-length-4 c = omega arith
+
 returns-2 : tie.Need-returns-2 Inv-loop μ-loop
 returns-2 c = tt
 
@@ -59,6 +71,8 @@ read-words-spec =
     note-requires
     shared-slice-read-if1
     ended-requires
+    same-length
+    same-length-2
     returns
     shared-slice-read-read-word
     read-word-requires
@@ -66,4 +80,6 @@ read-words-spec =
     loop-less
     loop-again
     no-case-requires
+    same-length-3
+    same-length-4
     returns-2)

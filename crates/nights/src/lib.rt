@@ -1,0 +1,1 @@
+// Laws only: what the answers of a call of many rows mean.

@@ -1,0 +1,10 @@
+pub mod Backs
+pub mod Builds
+pub mod Distincts
+pub mod Fits
+pub mod Notebook
+pub mod Orders
+pub mod Rooms
+pub mod Taken
+pub mod Uniques
+pub mod Values
