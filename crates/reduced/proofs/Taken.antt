@@ -19,7 +19,7 @@ use Rattle.steps.specs.History.{answered}
 use Rattle.steps.specs.Rows.{valueOf, CleanRow}
 use Rattle.steps.specs.Setting.{Inverts, Echelon, withLast, Grown}
 use Rattle.steps.proofs.Answers.{answered-none, answered-step}
-use Rattle.steps.proofs.Lasts.{last-all, spans-last, spans-before}
+use Rattle.steps.proofs.Lasts.{up-to, last-all, spans-last, spans-before}
 use Rattle.steps.proofs.Nones.{no-head}
 use Rattle.steps.proofs.Steps.{step-added, step-echelon, step-spans, second-clear}
 use Rattle.steps.proofs.Zeros.{row-small}
@@ -34,10 +34,6 @@ last-same k f = λ t i. go i (ℕ-discrete i k) t
     go : (i : ℕ) → Dec (i ≡ k) → cond (eqb i k) (f k) (f i) ≡ f i
     go i (yes e) = rw (eq-eqb i k e) (ap f (sym e))
     go i (no e) = rw (ne-eqb i k e)
-
--- what holds of place k and of those before it
-up-to : (P : ℕ → Type 0) (k : ℕ) → P k → ((i : ℕ) → i < k → P i) → (i : ℕ) → i < suc k → P i
-up-to P k here before = last-all {A = ℕ} k k (λ i. i) (λ i z. P i) here before
 
 -- U after rows by falling head is in echelon form
 pub finished-echelon : {p n k : ℕ} {rows : ℕ → List Entry} {h : ℕ → ℕ} {u : Upper} → Finished p n k rows h u → Echelon p n k u h

@@ -10,8 +10,8 @@ use lib.ListN.{length}
 use Rattle.lists.proofs.Decides.{decides-or, decides-eq}
 use Rattle.lists.proofs.Find.{told}
 use Rattle.linear.specs.Combination.{Combination}
-use Rattle.linear.proofs.Heads.{full}
-use Rattle.linear.proofs.Span.{span-combination, span-same, span-zero}
+use Rattle.linear.proofs.Heads.{Heads, full}
+use Rattle.linear.proofs.Span.{Span, span-combination, span-same, span-zero}
 use Rattle.sparse.specs.Rows.{Entry}
 use Rattle.walk.specs.Step.{Upper, taken, step}
 use Rattle.walk.specs.declared.Answer.the-variants.{Accepted, None}
@@ -21,6 +21,18 @@ use Rattle.steps.specs.Setting.{Inverts, Echelon}
 use Rattle.steps.proofs.Entries.{value-none}
 use Rattle.steps.proofs.Steps.{step-none}
 use Rattle.steps.proofs.Zeros.{row-small}
+
+-- step 1 passes over a row only if it is a sum of multiples of the k rows so far: an empty row, or any row where there are n
+pub once-span : {p n k : ℕ} {u : ℕ → ℕ → ℕ} {h : ℕ → ℕ} → 0 < p → Heads p n k u h → (es : List Entry) → atOnce n k es ≡ true → Span p n k u (valueOf es)
+unfolding atOnce
+once-span {p} {n} {k} {u} {h} pos heads es e = ⊎-elim (λ q. empty es q) all (decides-or (decides-eq (length es) 0) (decides-eq k n) .yes e)
+  where
+    empty : (ds : List Entry) → length ds ≡ 0 → Span p n k u (valueOf ds)
+    empty [] q = span-same (λ j l. ap (λ (z : ℕ). z % p) (value-none j)) span-zero
+    empty (d ∷ ds) q = absurd (omega arith)
+
+    all : k ≡ n → Span p n k u (valueOf es)
+    all q = subst (λ (m : ℕ). Span p n m u (valueOf es)) (sym q) (full p n u h (subst (λ (m : ℕ). Heads p n m u h) q heads) pos (valueOf es))
 
 -- N5: at full rank every row is a combination
 pub full-combination : {p n : ℕ} {u : Upper} {h : ℕ → ℕ} → 0 < p → Echelon p n n u h → (x : ℕ → ℕ) → ((j : ℕ) → j < n → x j < p) → Combination p n n (u .value) x
@@ -43,18 +55,7 @@ module _ (on : Bool) (p n k : ℕ) (u : Upper) (h : ℕ → ℕ) (inverts : Inve
   small j l = row-small pos row j
 
   at-once : atOnce n k es ≡ true → Combination p n k (u .value) (valueOf es)
-  unfolding atOnce
-  at-once e = ⊎-elim empty all (decides-or (decides-eq (length es) 0) (decides-eq k n) .yes e)
-    where
-      nothing : (ds : List Entry) → length ds ≡ 0 → (j : ℕ) → valueOf ds j ≡ 0
-      nothing [] q j = value-none j
-      nothing (d ∷ ds) q j = absurd (omega arith)
-
-      empty : length es ≡ 0 → Combination p n k (u .value) (valueOf es)
-      empty q = span-combination pos small (span-same (λ j l. ap (λ (z : ℕ). z % p) (nothing es q j)) span-zero)
-
-      all : k ≡ n → Combination p n k (u .value) (valueOf es)
-      all q = subst (λ (m : ℕ). Combination p n m (u .value) (valueOf es)) (sym q) (full-combination pos (subst (λ (m : ℕ). Echelon p n m u h) q echelon) (valueOf es) small)
+  at-once e = span-combination pos small (once-span pos (echelon .heads) es e)
 
   -- None exactly if a combination, step 1 included
   pub answered-none : (answered on p n k u es .answer ≡ None) ↔ Combination p n k (u .value) (valueOf es)

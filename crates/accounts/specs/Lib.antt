@@ -1,0 +1,4 @@
+pub mod Account
+pub mod Judgement
+pub mod Rule
+pub mod Tests
