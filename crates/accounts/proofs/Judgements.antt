@@ -19,7 +19,7 @@ use Rattle.state.specs.State.{headOf}
 use Rattle.linear.proofs.Span.{Span, span-same, span-row, span-sum}
 use Rattle.steps.specs.Rows.{valueOf, entryAt, Storable, times}
 use Rattle.steps.proofs.Entries.{times-span}
-use Rattle.running.specs.Answers.{none}
+use Rattle.telling.specs.Answers.{none}
 use Rattle.accounts.specs.Judgement.{unstorable, astray, diagonal, diagonalFault, answerFault, productFault, judgeFault}
 
 -- a value in 1..p-1

@@ -20,7 +20,7 @@ use Rattle.state.specs.Memory.{memory}
 use Rattle.state.specs.State.{isRefused, headOf, headless, misplaced, uFault, crooked}
 use Rattle.steps.specs.History.{atOnce}
 use Rattle.steps.specs.Rows.{times}
-use Rattle.running.specs.Answers.{none}
+use Rattle.telling.specs.Answers.{none}
 use Rattle.accounts.specs.Account.{Account, account, uWhole, lCount, lRow, answerAt, acceptedIn, without, usedIn, rowFault, accountFault, isAccount}
 use Rattle.accounts.specs.Judgement.{unstorable, astray, diagonal, diagonalFault, answerFault, productFault, judgeFault}
 use Rattle.accounts.specs.Tests.{broken, answersTest, memoryTest, slicesTest, accountTest}

@@ -18,7 +18,7 @@ use Rattle.sparse.specs.declared.Tested.the-variants.{Good}
 use Rattle.sparse.proofs.Firsts.{refuse-good, neither, lowest-good}
 use Rattle.steps.specs.History.{atOnce, accepted, valuesIn}
 use Rattle.steps.specs.Rows.{valueOf}
-use Rattle.running.specs.Answers.{none}
+use Rattle.telling.specs.Answers.{none}
 use Rattle.accounts.specs.Account.{Account, answerAt, isAccount, toldIn}
 use Rattle.accounts.specs.Tests.{memoryTest, accountTest, Presented}
 use Rattle.accounts.proofs.Rules.{once-spares}

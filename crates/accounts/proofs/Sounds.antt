@@ -29,8 +29,8 @@ use Rattle.steps.specs.History.{accepted, valuesIn}
 use Rattle.steps.specs.Rows.{valueOf, CleanRow}
 use Rattle.steps.proofs.Histories.{accepted-same, accepted-more}
 use Rattle.steps.proofs.Zeros.{row-small}
-use Rattle.running.specs.Answers.{none}
-use Rattle.running.proofs.Nexts.{row-here, row-offered}
+use Rattle.telling.specs.Answers.{none}
+use Rattle.stepping.proofs.MatrixRows.{row-here, row-offered}
 use Rattle.accounts.specs.Account.{Account, Rule, uWhole, lCount, lRow, answerAt, acceptedIn, without, usedIn, rowFault, accountFault, isAccount, answerOf, toldIn}
 use Rattle.accounts.specs.Judgement.{judgeFault}
 use Rattle.accounts.specs.Rule.{Spares}

@@ -13,7 +13,7 @@ use Rattle.state.specs.State.{uFault}
 use Rattle.walk.specs.declared.Answer.{Answer}
 use Rattle.walk.specs.declared.Answer.the-variants.{Accepted, None}
 use Rattle.steps.specs.History.{Told, told}
-use Rattle.running.specs.Answers.{none}
+use Rattle.telling.specs.Answers.{none}
 use Rattle.accounts.specs.Judgement.{judgeFault}
 
 -- an account: the modulus, clean rows, an answer for each, U, L with values, and pivots

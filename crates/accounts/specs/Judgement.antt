@@ -9,7 +9,7 @@ use Rattle.sparse.specs.Matrix.{Matrix, valueAt}
 use Rattle.sparse.specs.Rows.{Entry}
 use Rattle.state.specs.State.{headOf}
 use Rattle.steps.specs.Rows.{valueOf, entryAt, times}
-use Rattle.running.specs.Answers.{none}
+use Rattle.telling.specs.Answers.{none}
 
 -- a value that isn't in 1..p-1
 unfoldable pub unstorable : ℕ → ℕ → Bool

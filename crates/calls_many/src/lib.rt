@@ -6,7 +6,7 @@ use cases::table::list;
 use cases::table::number;
 use cases::table::pointers;
 use cases_rows::memory::mode;
-use running::Reduced;
+use telling::Reduced;
 
 // The call of a row.
 pub fn reduce(
@@ -95,7 +95,7 @@ fn checked(
     let cols = list(nums, wides, 5);
     let vals = list(nums, wides, 6);
     if on {
-        return matrices::from_matrix_check_dependent_with_back_subs(
+        return anew::from_matrix_check_dependent_with_back_subs(
             p,
             mode,
             nrows,
@@ -114,7 +114,7 @@ fn checked(
             pivots,
         );
     }
-    matrices::from_matrix_check_dependent(
+    anew::from_matrix_check_dependent(
         p,
         mode,
         nrows,

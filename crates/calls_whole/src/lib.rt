@@ -5,7 +5,7 @@ use cases::table::number;
 use cases::table::pointers;
 use cases_rows::memory::counts;
 use cases_rows::memory::mode;
-use running::Reduced;
+use telling::Reduced;
 
 // Into a reducer: the counts are the first seven words.
 pub fn added(
@@ -89,7 +89,7 @@ pub fn made(
     let cols = list(nums, wides, 5);
     let vals = list(nums, wides, 6);
     if on {
-        return matrices::from_matrix_with_back_subs(
+        return anew::from_matrix_with_back_subs(
             p,
             mode,
             nrows,
@@ -108,7 +108,7 @@ pub fn made(
             pivots,
         );
     }
-    matrices::from_matrix(
+    anew::from_matrix(
         p,
         mode,
         nrows,

@@ -7,9 +7,9 @@ use answers::put;
 use answers::put_count;
 use answers::put_list;
 use answers::put_refused;
-use running::Reduced;
-use running::Run;
 use sparse::inside::number_of;
+use telling::Reduced;
+use telling::Run;
 use walk::Answer;
 
 // Of a call that takes many rows: how many were taken, and the counts; where it stopped, the number before them.

@@ -1,3 +1,2 @@
-pub mod Asks
 pub mod Calls
 pub mod Tests

@@ -4,7 +4,7 @@ use mathlib.Core.Path.{_≡_, sym, ap, subst, _∙_}
 use mathlib.Core.Logic.{_↔_}
 use mathlib.Core.Bool.{Bool}
 use mathlib.Core.List.{List, [], _∷_, _++_, map, map-append}
-use Prim.Native.Nat.{ℕ, _+_, _<_}
+use Prim.Native.Nat.{ℕ, _+_, _≤_, _<_}
 use native.Mathlib.Omega.{arith}
 use lib.ListN.{length, set, length-append, length-map}
 use Rattle.lists.specs.Onto.{_onto_}
@@ -27,20 +27,22 @@ use Rattle.keeping.proofs.Keeps.{step-stands}
 use Rattle.keeping.proofs.Nexts.{step-answer}
 use Rattle.keeping.proofs.Settings.{rowsIn}
 use Rattle.keeping.proofs.Pasts.{Counted, step-counted, Past, step-past}
-use Rattle.running.specs.Answers.{number}
-use Rattle.running.specs.Rows.{run, Written, written}
-use Rattle.running.specs.declared.Run.{Run}
+use Rattle.telling.specs.Answers.{number}
+use Rattle.running.specs.Rows.{Written, written}
+use Rattle.telling.specs.Runs.{run}
+use Rattle.telling.specs.declared.Run.{Run}
 use Rattle.nights.specs.Meant.{Meant, more}
 
--- so it stands after the rows ts, from counts c and answer memory b
+-- so it stands after the rows ts, from counts c and answer memory b, where that has a place for each
 pub record Kept (c : Counts) (b : List ℕ) (ts : List Told) (r : Run) (w : Written) : Type 0 where
   pub stands : Stands (r .counts) (lists (w .memory) [])
   pub past : Past ts (r .counts) (lists (w .memory) [])
   pub meant : Meant (c .modulus) (c .ncols) ts
+  pub mode : r .counts .mode ≡ c .mode
   pub modulus : r .counts .modulus ≡ c .modulus
   pub ncols : r .counts .ncols ≡ c .ncols
   pub taken : length ts ≡ r .taken
-  pub numbers : w .answers ≡ map (λ t. number (t .answer)) ts onto b
+  pub numbers : length ts ≤ length b → w .answers ≡ map (λ t. number (t .answer)) ts onto b
 
 -- a clean row is offered by its columns and values
 row-offered : (c : Counts) (es : List Entry) → CleanRow (c .modulus) (c .ncols) es → Offered c (colsOf es) (valuesOf es)
@@ -88,16 +90,18 @@ module _ (on : Bool) {c : Counts} {b : List ℕ} {ts : List Told} {r : Run} {w :
       let told-same : answered on (r .counts .modulus) (r .counts .ncols) (length (accepted ts)) (rowsIn (w .memory)) es .answer ≡ a = rw (k .past .rank) (sym same) in
       rw (← k .modulus, ← k .ncols) ((λ e. exact .0 (told-same ∙ e)), (λ q. sym told-same ∙ exact .1 q))
 
-  pub kept-more : length ts < length b → Kept c b (ts ++ (told es a ∷ [])) (run (r .taken + 1) (rowStep on (r .counts) es (w .memory) .answer .counts)) (written (rowStep on (r .counts) es (w .memory) .memory) (set (w .answers) (r .taken) (number a)))
-  kept-more h = record {
+  pub kept-more : Kept c b (ts ++ (told es a ∷ [])) (run (r .taken + 1) (rowStep on (r .counts) es (w .memory) .answer .counts)) (written (rowStep on (r .counts) es (w .memory) .memory) (set (w .answers) (r .taken) (number a)))
+  kept-more = record {
     stands = stands;
     past = past;
     meant = more ts (k .meant) es a exactly;
+    mode = counted .mode ∙ k .mode;
     modulus = counted .modulus ∙ k .modulus;
     ncols = counted .ncols ∙ k .ncols;
     taken = length-append ts (told es a ∷ []) ∙ ap (λ (n : ℕ). n + 1) (k .taken);
-    numbers =
-        ap (λ (xs : List ℕ). set xs (r .taken) (number a)) (k .numbers)
+    numbers = λ h.
+        let low : length ts < length b = omega (arith, length-append ts (told es a ∷ [])) in
+        ap (λ (xs : List ℕ). set xs (r .taken) (number a)) (k .numbers (omega arith))
         ∙ onto-more (map (λ t. number (t .answer)) ts) b (r .taken) (number a) (length-map ts _ ∙ k .taken) (omega (arith, k .taken))
         ∙ ap (λ (xs : List ℕ). xs onto b) (sym (map-append _ ts (told es a ∷ [])));
   }

@@ -11,7 +11,7 @@ use Rattle.walk.specs.declared.Answer.{Answer}
 use Rattle.walk.specs.declared.Answer.the-variants.{None}
 use Rattle.steps.specs.History.{Told, told, accepted, valuesIn}
 use Rattle.steps.specs.Rows.{valueOf}
-use Rattle.running.specs.Answers.{number}
+use Rattle.telling.specs.Answers.{number}
 
 -- each of these rows was answered None exactly if it is a combination of the rows accepted before it
 pub data Meant (p n : ℕ) : List Told → Type 0 where

@@ -26,12 +26,14 @@ use Rattle.stepping.specs.Take.{lists, roomAsked, rowStep, stepRow}
 use Rattle.keeping.proofs.Keeps.{step-stands}
 use Rattle.keeping.proofs.Pasts.{Counted, step-counted}
 use Rattle.running.specs.Asks.{Goes, GoesOn}
-use Rattle.running.specs.Rows.{Night, night, run, stop, Written, written, ended, counted, nextRow, thenRow, takeRows}
-use Rattle.running.specs.declared.Reduced.{Reduced}
-use Rattle.running.specs.declared.Reduced.the-variants.{Taken, Dependent, Stopped, Refused}
-use Rattle.running.specs.declared.Run.{Run}
-use Rattle.running.proofs.Nexts.{row-here, next-offered}
-use Rattle.running.proofs.Reduced.{the-type}
+use Rattle.running.specs.Rows.{Night, night, Written, written, counted, nextRow, thenRow, takeRows}
+use Rattle.telling.specs.Runs.{run, stop, ended}
+use Rattle.telling.specs.declared.Reduced.{Reduced}
+use Rattle.telling.specs.declared.Reduced.the-variants.{Taken, Dependent, Stopped, Refused}
+use Rattle.telling.specs.declared.Run.{Run}
+use Rattle.stepping.proofs.MatrixRows.{row-here}
+use Rattle.running.proofs.Nexts.{next-offered}
+use Rattle.telling.proofs.Reduced.{the-type}
 
 -- the call has ended
 unfoldable pub isOver : Reduced → Bool
@@ -197,7 +199,6 @@ module _ {on check : Bool} {a : Matrix} {c : Counts} {v : Night} {r : Run} {w : 
           fits = record {
             rows = rw (mores .counts, counts-same .modulus) (g .goes .fits .rows);
             columns = rw (mores .counts, counts-same .ncols) (g .goes .fits .columns);
-            room = omega (arith, same .answers, g .goes .fits .room);
           };
           zero = rw (mores .counts, counts-same .ncols) (same-dense ∙ g .goes .zero);
         };

@@ -30,78 +30,18 @@ use Rattle.walk.specs.declared.Answer.the-variants.{Accepted}
 use Rattle.stepping.specs.Asks.{Offered, Ready}
 use Rattle.stepping.specs.Take.{Lists, lists, roomAsked, rowStep, stepRow}
 use Rattle.stepping.specs.declared.Stepped.{Stepped}
-use Rattle.stepping.proofs.Offers.{offered}
+use Rattle.stepping.proofs.MatrixRows.{Place, place, row-here, row-offered}
 use Rattle.stepping.proofs.Clears.{cleared-zero}
 use Rattle.adding.specs.AddRow.{answeredWith, takeRow}
 use Rattle.adding.specs.declared.Added.{Added}
 use Rattle.adding.specs.declared.Added.the-variants.{Answered, Refused}
-use Rattle.running.specs.Answers.{number}
+use Rattle.telling.specs.Answers.{number}
 use Rattle.running.specs.Asks.{Offers, GoesOn}
-use Rattle.running.specs.Rows.{Night, run, stop, Written, written, ended, counted, nextRow}
-use Rattle.running.specs.declared.Reduced.{Reduced}
-use Rattle.running.specs.declared.Reduced.the-variants.{Taken, Stopped}
-use Rattle.running.specs.declared.Run.{Run}
-
--- a clean matrix, part by part
-module _ (p : ℕ) (a : Matrix) (e : clean 65536 p a ≡ Good) where
-  formed : wellFormed 65536 p a ≡ Good
-  unfolding clean
-  formed = lowest-good _ _ e .0
-
-  lies : Laid a
-  lies = formed-laid 65536 p a formed
-
-  sizes : Small 65536 (a .nrows) (a .ncols) (length (a .values))
-  unfolding wellFormed
-  sizes = small 65536 (a .nrows) (a .ncols) (length (a .values)) (lowest-good _ _ (lowest-good _ _ formed .1) .0)
-
-  low-values : (i : ℕ) → i < a .nrows → valuesTest Residue p (row (a .row-ptrs) (a .values) i) ≡ Good
-  unfolding wellFormed matrixTest rowsValuesTest
-  low-values i h =
-      let m = lowest-good _ _ (lowest-good _ _ formed .1) .1 in
-      each-good (a .nrows) _ (lowest-good _ _ (lowest-good _ _ (lowest-good _ _ (lowest-good _ _ m .0) .1) .1) .0) i h
-
-  some-values : (i : ℕ) → i < a .nrows → valuesTest Nonzero p (row (a .row-ptrs) (a .values) i) ≡ Good
-  unfolding clean rowsValuesTest
-  some-values i h = each-good (a .nrows) _ (lowest-good _ _ (lowest-good _ _ e .1) .0) i h
-
-  -- where row i lies
-  pub record Place (i : ℕ) : Type 0 where
-    pub pointer : i + 1 < length (a .row-ptrs)
-    pub rises : getD (a .row-ptrs) i 0 ≤ getD (a .row-ptrs) (i + 1) 0
-    pub columns : getD (a .row-ptrs) (i + 1) 0 ≤ length (a .col-idcs)
-    pub numbers : getD (a .row-ptrs) (i + 1) 0 ≤ length (a .values)
-    pub few : getD (a .row-ptrs) (i + 1) 0 ≤ 65536
-    pub low : i < 1024
-
-  pub place : (i : ℕ) → i < a .nrows → Place i
-  place i h =
-      let w : Within (getD (a .row-ptrs) i 0) (getD (a .row-ptrs) (i + 1) 0) (length (a .values)) = row-in (lies .rows) h in
-      record {
-        pointer = omega (arith, lies .shape .many);
-        rises = w .rises;
-        columns = omega (arith, w .fits, lies .shape .col-each);
-        numbers = w .fits;
-        few = omega (arith, w .fits, sizes .few);
-        low = omega (arith, sizes .high);
-      }
-
-  -- its columns and values, side by side
-  pub row-here : (i : ℕ) → i < a .nrows → entries (row (a .row-ptrs) (a .col-idcs) i) (row (a .row-ptrs) (a .values) i) ≡ rowAt a i
-  unfolding rowAt rowsOf row
-  row-here i h =
-      part-entries (getD (a .row-ptrs) i 0) (getD (a .row-ptrs) (i + 1) 0) (a .col-idcs) (a .values) (lies .shape .col-each) (place i h .numbers)
-      ∙ sym (getD-table (a .nrows) (row (a .row-ptrs) (entries (a .col-idcs) (a .values))) i [] h)
-
-  row-same : (i : ℕ) → i < a .nrows → length (row (a .row-ptrs) (a .col-idcs) i) ≡ length (row (a .row-ptrs) (a .values) i)
-  unfolding row
-  row-same i h = length-part (getD (a .row-ptrs) i 0) (getD (a .row-ptrs) (i + 1) 0) (a .col-idcs) (place i h .columns) ∙ sym (length-part (getD (a .row-ptrs) i 0) (getD (a .row-ptrs) (i + 1) 0) (a .values) (place i h .numbers))
-
-  -- and it is clean
-  pub row-offered : (c : Counts) → c .modulus ≡ p → a .ncols ≡ c .ncols → (i : ℕ) → i < a .nrows → Offered c (row (a .row-ptrs) (a .col-idcs) i) (row (a .row-ptrs) (a .values) i)
-  row-offered c m n i h =
-      offered c _ _ (row-same i h) (subst (λ (k : ℕ). Climbs k (row (a .row-ptrs) (a .col-idcs) i)) n (row-climbs a (formed-rows 65536 p a formed) i h))
-      (rw m (low-values i h)) (rw m (some-values i h))
+use Rattle.running.specs.Rows.{Night, Written, written, counted, nextRow}
+use Rattle.telling.specs.Runs.{run, stop, ended}
+use Rattle.telling.specs.declared.Reduced.{Reduced}
+use Rattle.telling.specs.declared.Reduced.the-variants.{Taken, Stopped}
+use Rattle.telling.specs.declared.Run.{Run}
 
 -- a row that is offered
 module _ {c : Counts} {cols vals : List ℕ} {o : Lists} (s : Offers c cols vals o) where
@@ -116,12 +56,6 @@ module _ {c : Counts} {cols vals : List ℕ} {o : Lists} (s : Offers c cols vals
     pub offers-taken : r ≡ Good → {x : Stepped} {after : Lists} → outcome x after ≡ stepRow on c (entries cols vals) o → outcome (Answered x) after ≡ takeRow on c (entries cols vals) o
     unfolding takeRow unless answeredWith
     offers-taken e took = rw (sym asked ∙ e) (ap answeredWith took)
-
--- an accepted row never ends a call
-pub never-ends : (check : Bool) {a : Answer} {g : ℕ} → a ≡ Accepted g → (r : Run) → Taken r ≡ ended check a r
-unfolding ended isNone
-never-ends true e r = rw e
-never-ends false e r = refl
 
 -- what a row's outcome comes to in a call of many rows
 unfoldable turned : Bool → Run → List ℕ → Added → Lists → Outcome (Outcome Reduced Written) (List ℕ)
@@ -152,9 +86,6 @@ module _ {r : Run} {a : Matrix} {w : Night} (s : GoesOn r a w) where
   pub next-place : Place (r .counts .modulus) a (s .goes .fits .rows) i
   next-place = place (r .counts .modulus) a (s .goes .fits .rows) i (s .within)
 
-  pub next-answer : r .taken < length (w .answers)
-  next-answer = omega (arith, s .within, s .goes .fits .room)
-
   pub next-offered : Offered (r .counts) cols vals
   next-offered = row-offered (r .counts .modulus) a (s .goes .fits .rows) (r .counts) refl (s .goes .fits .columns) i (s .within)
 
@@ -176,6 +107,6 @@ module _ {r : Run} {a : Matrix} {w : Night} (s : GoesOn r a w) where
     unfolding turned
     next-stopped check e = sym (ap (λ (y : Added). turned check r (w .answers) y (lists m d)) e) ∙ next-turned check
 
-    pub next-taken : (check : Bool) {y : Stepped} → x ≡ Answered y → {z : Reduced} {k : ℕ} → z ≡ ended check (y .answer) (run (i + 1) (y .counts)) → k ≡ number (y .answer) → outcome (outcome z (written m (set (w .answers) i k))) d ≡ outcome (nextRow on check (rowAt a i) r (written (w .memory) (w .answers))) (w .dense)
+    pub next-taken : (check : Bool) {y : Stepped} → x ≡ Answered y → {z : Reduced} {answers : List ℕ} → z ≡ ended check (y .answer) (run (i + 1) (y .counts)) → answers ≡ set (w .answers) i (number (y .answer)) → outcome (outcome z (written m answers)) d ≡ outcome (nextRow on check (rowAt a i) r (written (w .memory) (w .answers))) (w .dense)
     unfolding turned
     next-taken check e q n = rw (q, n) (sym (ap (λ (y : Added). turned check r (w .answers) y (lists m d)) e) ∙ next-turned check)

@@ -1,29 +1,18 @@
 -- Rows taken one after another: the fold of the single step.
 use Prim.Native.Nat.{ℕ, _+_}
-use mathlib.Core.Bool.{Bool, _&&_, cond}
+use mathlib.Core.Bool.{Bool}
 use mathlib.Core.List.{List, [], _∷_}
 use lib.ListN.{set}
 use Rattle.sparse.specs.Lent.{Outcome, outcome, unless}
 use Rattle.sparse.specs.Rows.{Entry}
-use Rattle.sparse.specs.declared.Refusal.{Refusal}
 use Rattle.state.specs.Memory.{Memory}
-use Rattle.state.specs.declared.Counts.{Counts}
-use Rattle.walk.specs.Step.{isNone}
-use Rattle.walk.specs.declared.Answer.{Answer}
 use Rattle.stepping.specs.Take.{roomAsked, rowStep}
 use Rattle.stepping.specs.declared.Stepped.{Stepped}
-use Rattle.running.specs.Answers.{number}
-use Rattle.running.specs.declared.Reduced.{Reduced}
-use Rattle.running.specs.declared.Reduced.the-variants.{Taken, Dependent, Stopped, Refused}
-use Rattle.running.specs.declared.Run.{Run}
-use Rattle.running.specs.declared.Stop.{Stop}
-
--- how many rows were taken, and the counts after them
-abbrev pub run : ℕ → Counts → Run
-run k c = record { taken = k; counts = c }
-
-abbrev pub stop : Refusal → Run → Stop
-stop why r = record { why = why; run = r }
+use Rattle.telling.specs.Answers.{number}
+use Rattle.telling.specs.Runs.{run, stop, ended}
+use Rattle.telling.specs.declared.Reduced.{Reduced}
+use Rattle.telling.specs.declared.Reduced.the-variants.{Taken, Dependent, Stopped, Refused}
+use Rattle.telling.specs.declared.Run.{Run}
 
 -- the reducer's lists, and the answers
 pub record Written : Type 0 where
@@ -32,10 +21,6 @@ pub record Written : Type 0 where
 
 abbrev pub written : Memory → List ℕ → Written
 written m answers = record { memory = m; answers = answers }
-
--- a call that checks for dependence ends at the first None; others go on
-unfoldable pub ended : Bool → Answer → Run → Reduced
-ended check a r = cond (check && isNone a) (Dependent r) (Taken r)
 
 -- a row is taken: counted, and its answer written
 unfoldable pub counted : Bool → ℕ → Outcome Stepped Memory → List ℕ → Outcome Reduced Written

@@ -6,20 +6,20 @@ ghost use Rattle.sparse.specs.Rows.{entries, rowsOf, rowAt};
 ghost use Rattle.state.specs.Memory.{memory};
 ghost use Rattle.stepping.specs.Take.{lists};
 ghost use Rattle.adding.specs.AddRow.{takeRow};
-ghost use Rattle.running.specs.Answers.{number};
 ghost use Rattle.running.specs.Asks.{Offers, Goes, GoesOn};
-ghost use Rattle.running.specs.Rows.{run, written, night, nextRow, takeRows};
-ghost use Rattle.running.specs.declared.Reduced.the-variants.{Taken};
-use crate::NONE;
-use crate::Reduced;
-use crate::Run;
-use crate::Stop;
+ghost use Rattle.running.specs.Rows.{written, night, nextRow, takeRows};
+ghost use Rattle.telling.specs.Runs.{run};
+ghost use Rattle.telling.specs.declared.Reduced.the-variants.{Taken};
 use adding::Added;
 use sparse::Tested;
 use state::Counts;
 use stepping::rows::room_asked;
 use stepping::rows::step_row;
-use walk::Answer;
+use telling::Reduced;
+use telling::Run;
+use telling::Stop;
+use telling::answers::ended;
+use telling::answers::tell;
 
 // Takes all rows, or as many as the call takes. Dense memory is zero before and after.
 pub fn take_rows(
@@ -119,38 +119,13 @@ fn next_row(
         Added::Answered(stepped) => {
             let answer = stepped.answer;
             let after = stepped.counts;
-            answers[taken] = number_of(answer);
+            tell(answer, taken, answers);
             let run = Run {
                 taken: run.taken + 1,
                 counts: after,
             };
             ended(check, answer, run)
         }
-    }
-}
-
-// A call that checks for dependence ends at the first None.
-fn ended(check: bool, answer: Answer, run: Run) -> Reduced
-    ensures { λ r. ⌜ r ≡ Rattle.running.specs.Rows.ended check answer run ⌝ }
-{
-    match answer {
-        Answer::None => {
-            if check {
-                return Reduced::Dependent(run);
-            }
-            Reduced::Taken(run)
-        }
-        Answer::Accepted(_) => Reduced::Taken(run),
-    }
-}
-
-// The number that answer memory gets.
-fn number_of(answer: Answer) -> u32
-    ensures { λ r. ⌜ r ≡ number answer ⌝ }
-{
-    match answer {
-        Answer::Accepted(col) => col,
-        Answer::None => NONE,
     }
 }
 

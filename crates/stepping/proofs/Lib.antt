@@ -1,4 +1,5 @@
 pub mod Clears
+pub mod MatrixRows
 pub mod Offers
 pub mod Room
 pub mod Walks

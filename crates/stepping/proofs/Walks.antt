@@ -123,30 +123,35 @@ module _ {c : Counts} {cols vals : List ℕ} {o : Lists} (r : Ready c cols vals 
   long : length (o .dense) ≡ c .ncols
   long = ap length (r .zero) ∙ length-table (c .ncols) (λ j. 0)
 
-  -- its walk may begin
-  pub ready-takes : Takes (c .modulus) (length (o .dense)) (c .mode) (c .rank) (c .«u_fill») (c .«l_rows») (c .«l_fill») cols vals (o .dense) (upperOf (o .memory)) (lowerOf (o .memory))
-  ready-takes = rw long (record {
-    modulus = stands-modulus c o (r .stands);
-    narrow = r .stands .opened .wide;
-    zero = r .zero;
-    same = r .row .same;
-    some = some;
-    clean = r .row .clean;
-    heads = heads c o (r .stands);
-    echelon = stands-echelon c o (r .stands);
-    pivoted = state-pivoted _ _ _ _ _ _ _ _ (r .stands .opened) (parts c o (r .stands) .lost) (parts c o (r .stands) .fault);
-    low = omega (arith, rank-lower, r .stands .opened .wide);
-    u-columns = u-has .columns;
-    u-numbers = u-has .numbers;
-    u-pointer = u-has .pointers;
-    l-columns = l-has .columns;
-    l-numbers = l-has .numbers;
-    l-pointer = l-has .pointers;
-  })
-
   module _ (on : Bool) where
     abbrev t : Taken
     t = step on (c .modulus) (c .ncols) (c .rank) u es
+
+    -- a row of U has at most a place for each column
+    few : (a : Answer) → t .answer ≡ a → length (t .u) ≤ c .ncols
+    few (Accepted g) e = step-added on (c .modulus) (c .ncols) (c .rank) u (heads c o (r .stands)) (stands-inverts c o (r .stands)) (stands-echelon c o (r .stands)) es (r .row .clean) e .u-room
+    few None e = let none = step-not-added on (c .modulus) (c .ncols) (c .rank) u (heads c o (r .stands)) (stands-inverts c o (r .stands)) (stands-echelon c o (r .stands)) es (r .row .clean) e .none in omega (arith, ap length none)
+
+    -- its walk may begin
+    pub ready-takes : Takes on (c .modulus) (length (o .dense)) (c .mode) (c .rank) (c .«u_fill») (c .«l_rows») (c .«l_fill») cols vals (o .dense) (upperOf (o .memory)) (lowerOf (o .memory))
+    ready-takes = rw long (record {
+      modulus = stands-modulus c o (r .stands);
+      narrow = r .stands .opened .wide;
+      zero = r .zero;
+      same = r .row .same;
+      some = some;
+      clean = r .row .clean;
+      heads = heads c o (r .stands);
+      echelon = stands-echelon c o (r .stands);
+      pivoted = state-pivoted _ _ _ _ _ _ _ _ (r .stands .opened) (parts c o (r .stands) .lost) (parts c o (r .stands) .fault);
+      low = omega (arith, rank-lower, r .stands .opened .wide);
+      u-columns = omega (arith, few (t .answer) refl, u-has .columns);
+      u-numbers = omega (arith, few (t .answer) refl, u-has .numbers);
+      u-pointer = u-has .pointers;
+      l-columns = l-has .columns;
+      l-numbers = l-has .numbers;
+      l-pointer = l-has .pointers;
+    })
 
     -- what is stored
     abbrev ended : Answer → Shown

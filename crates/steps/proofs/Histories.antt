@@ -32,13 +32,13 @@ span-last {p} {n} {k} {r} {q} x each =
     last-all k x r (λ i y. Span p n (suc k) (withLast k x q) y) (spans-last x q) (λ i l. span-trans (spans-before x q) (each i l))
 
 -- U's k rows are in echelon form, and span what the k rows r do
-record Held (p n k : ℕ) (r : ℕ → ℕ → ℕ) (u : Upper) : Type 0 where
-  h : ℕ → ℕ
-  echelon : Echelon p n k u h
-  to : (i : ℕ) → i < k → Span p n k r (u .value i)
-  from : (i : ℕ) → i < k → Span p n k (u .value) (r i)
+pub record Held (p n k : ℕ) (r : ℕ → ℕ → ℕ) (u : Upper) : Type 0 where
+  pub h : ℕ → ℕ
+  pub echelon : Echelon p n k u h
+  pub to : (i : ℕ) → i < k → Span p n k r (u .value i)
+  pub from : (i : ℕ) → i < k → Span p n k (u .value) (r i)
 
-held-same : {p n k : ℕ} {r q : ℕ → ℕ → ℕ} {u : Upper} → ((i : ℕ) → i < k → q i ≡ r i) → Held p n k r u → Held p n k q u
+pub held-same : {p n k : ℕ} {r q : ℕ → ℕ → ℕ} {u : Upper} → ((i : ℕ) → i < k → q i ≡ r i) → Held p n k r u → Held p n k q u
 held-same {p} {n} {k} {r} {q} {u} same held = record {
   h = held .h;
   echelon = held .echelon;
@@ -74,7 +74,7 @@ values-more rs es =
     (λ i l. ap valueOf (List·getD-append rs (es ∷ []) [] i l))
 
 -- at a fresh start
-held-fresh : {p n : ℕ} {r : ℕ → ℕ → ℕ} {u : Upper} → NoPivots n u → Held p n 0 r u
+pub held-fresh : {p n : ℕ} {r : ℕ → ℕ → ℕ} {u : Upper} → NoPivots n u → Held p n 0 r u
 held-fresh f = record {
   h = λ i. 0;
   echelon = record {
@@ -87,7 +87,7 @@ held-fresh f = record {
 
 module _ (p n : ℕ) (inverts : Inverts p) where
   -- one row taken
-  held-grows : (on : Bool) (k : ℕ) (r : ℕ → ℕ → ℕ) (u : Upper) → Held p n k r u → (es : List Entry) → CleanRow p n es → (g : ℕ) (v : Upper) → answered on p n k u es .answer ≡ Accepted g → Grown n k g u (answered on p n k u es .u) v → Held p n (suc k) (withLast k (valueOf es) r) v
+  pub held-grows : (on : Bool) (k : ℕ) (r : ℕ → ℕ → ℕ) (u : Upper) → Held p n k r u → (es : List Entry) → CleanRow p n es → (g : ℕ) (v : Upper) → answered on p n k u es .answer ≡ Accepted g → Grown n k g u (answered on p n k u es .u) v → Held p n (suc k) (withLast k (valueOf es) r) v
   held-grows on k r u held es row g v e grown = record {
     h = withLast k g (held .h);
     echelon = step-echelon on p n k u (held .h) inverts (held .echelon) es row found new;
@@ -116,6 +116,17 @@ module _ (p n : ℕ) (inverts : Inverts p) where
   held-all (fresh u f) = held-fresh f
   held-all (more ts u past on es row a v next) = held-next on ts es row next (held-all past)
 
+  -- then None is answered exactly for a combination of the rows r
+  pub held-none : {k : ℕ} {r : ℕ → ℕ → ℕ} {u : Upper} → Held p n k r u → (on : Bool) (es : List Entry) → CleanRow p n es → (answered on p n k u es .answer ≡ None) ↔ Combination p n k r (valueOf es)
+  held-none {k} {r} {u} held on es row =
+      ((λ e. combination (span-trans (held .to) (combination-span (exact .0 e)))), (λ c. exact .1 (combination (span-trans (held .from) (combination-span c)))))
+    where
+      combination : {q : ℕ → ℕ → ℕ} → Span p n k q (valueOf es) → Combination p n k q (valueOf es)
+      combination = span-combination (omega (arith, inverts .least)) (λ j l. row-small (omega (arith, inverts .least)) row j)
+
+      exact : (answered on p n k u es .answer ≡ None) ↔ Combination p n k (u .value) (valueOf es)
+      exact = answered-none on p n k u (held .h) inverts (held .echelon) es row
+
   module _ {ts : List Told} {u : Upper} (past : History p n ts u) where
     -- U is in echelon form
     pub history-echelon : (h : ℕ → ℕ) × Echelon p n (length (accepted ts)) u h
@@ -127,14 +138,7 @@ module _ (p n : ℕ) (inverts : Inverts p) where
 
     -- None exactly if a combination of the rows accepted before
     pub history-none : (on : Bool) (es : List Entry) → CleanRow p n es → (answered on p n (length (accepted ts)) u es .answer ≡ None) ↔ Combination p n (length (accepted ts)) (valuesIn (accepted ts)) (valueOf es)
-    history-none on es row =
-        ((λ e. combination (history-spans .0 (combination-span (exact .0 e)))), (λ c. exact .1 (combination (history-spans .1 (combination-span c)))))
-      where
-        combination : {r : ℕ → ℕ → ℕ} → Span p n (length (accepted ts)) r (valueOf es) → Combination p n (length (accepted ts)) r (valueOf es)
-        combination = span-combination (omega (arith, inverts .least)) (λ j l. row-small (omega (arith, inverts .least)) row j)
-
-        exact : (answered on p n (length (accepted ts)) u es .answer ≡ None) ↔ Combination p n (length (accepted ts)) (u .value) (valueOf es)
-        exact = answered-none on p n (length (accepted ts)) u (held-all past .h) inverts (held-all past .echelon) es row
+    history-none = held-none (held-all past)
 
 -- every row can be taken, and so can any rows in turn
 next-some : (on : Bool) (p n k : ℕ) (u : Upper) (es : List Entry) → (a : Answer) × (v : Upper) × Next on p n k u es a v

@@ -36,7 +36,7 @@ use Rattle.taking.specs.Rows.{shown, walkedTo, storing, Takes}
 use Rattle.taking.specs.Stores.{Upper, withU, Lower, withL, keptEntries}
 use Rattle.taking.proofs.Walks.{head-free, head-stands, head-first, head-from, walked-accepted, walked-none}
 
-module _ {p n : ℕ} {mode : Mode} {rank uf lr lf : ℕ} {cols vals dense : List ℕ} {u : Upper} {l : Lower} (s : Takes p n mode rank uf lr lf cols vals dense u l) where
+module _ {on : Bool} {p n : ℕ} {mode : Mode} {rank uf lr lf : ℕ} {cols vals dense : List ℕ} {u : Upper} {l : Lower} (s : Takes on p n mode rank uf lr lf cols vals dense u l) where
   abbrev es : List Entry
   es = entries cols vals
 
@@ -95,7 +95,7 @@ module _ {p n : ℕ} {mode : Mode} {rank uf lr lf : ℕ} {cols vals dense : List
     }
 
     -- the walk's end
-    module _ (on : Bool) {walkd : List ℕ} {head : ℕ} (walk : LeftFrom p (length loaded) (limitOf on (length loaded) head) above (climb on p above (length loaded) (way (λ j. getD loaded j 0) [] None)) (getD cols 0 0) walkd head) where
+    module _ {walkd : List ℕ} {head : ℕ} (walk : LeftFrom p (length loaded) (limitOf on (length loaded) head) above (climb on p above (length loaded) (way (λ j. getD loaded j 0) [] None)) (getD cols 0 0) walkd head) where
       end : LeftFrom p n (limitOf on n head) above (climb on p above n (way (λ j. getD loaded j 0) [] None)) (getD cols 0 0) walkd head
       end = rw loaded-long at walk
 
@@ -117,8 +117,8 @@ module _ {p n : ℕ} {mode : Mode} {rank uf lr lf : ℕ} {cols vals dense : List
         answered : step on p n rank above es .answer ≡ Accepted head
         answered = ap (λ (t : Taken). t .answer) took
 
-        u-room : length (divided p n (restOf (u .pivots) limit walkd) head) ≤ n
-        u-room = subst (λ (t : Taken). length (t .u) ≤ n) took (step-added on p n rank above (s .heads) inverts (s .echelon) es (s .clean) answered .u-room)
+        same-long : length (divided p n (restOf (u .pivots) limit walkd) head) ≡ length (step on p n rank above es .u)
+        same-long = sym (ap (λ (t : Taken). length (t .u)) took)
 
         l-most : length (lRow (u .pivots) walkd limit head rank) ≤ rank + 1
         l-most = subst (λ (t : Taken). length (t .l) ≤ rank + 1) took (step-added on p n rank above (s .heads) inverts (s .echelon) es (s .clean) answered .l-room)
@@ -195,8 +195,8 @@ module _ {p n : ℕ} {mode : Mode} {rank uf lr lf : ℕ} {cols vals dense : List
                 nonzero = head-stands on p n rank above (s .heads) (s .echelon) es small (getD cols 0 0) loaded walkd head loaded-at end low;
                 free = head-free on p n rank above (s .heads) (s .echelon) es small (getD cols 0 0) loaded walkd head loaded-at end low;
                 before = head-first on p n rank above (s .heads) (s .echelon) es small (getD cols 0 0) loaded walkd head loaded-at end low;
-                columns = rw walkd-long (omega (arith, u-room low, length-drop uf (u .cols), s .u-columns));
-                numbers = rw walkd-long (omega (arith, u-room low, length-drop uf (u .vals), s .u-numbers));
+                columns = rw walkd-long (omega (arith, same-long low, length-drop uf (u .cols), s .u-columns));
+                numbers = rw walkd-long (omega (arith, same-long low, length-drop uf (u .vals), s .u-numbers));
               };
               columns = omega (arith, s .u-columns);
               numbers = omega (arith, s .u-numbers);

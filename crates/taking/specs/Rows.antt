@@ -1,6 +1,6 @@
 -- One row taken by steps 3 and 4: what is seen afterwards.
 use mathlib.Core.Path.{_≡_}
-use mathlib.Core.Bool.{true}
+use mathlib.Core.Bool.{Bool, true}
 use Prim.Native.Nat.{ℕ, _+_, _≤_, _<_}
 use mathlib.Core.List.{List}
 use lib.ListN.{length}
@@ -39,8 +39,8 @@ storing mode n rank u-fill l-rows l-fill (Accepted g) t u l =
     shown (walkedTo g (length (t .u)) (keptEntries mode (t .l))) (withU rank u-fill g (t .u) u) (withL mode l-rows l-fill (t .l) l) (table n (λ j. 0))
 storing mode n rank u-fill l-rows l-fill None t u l = shown (walkedTo n 0 (keptEntries mode (t .l))) u (withL mode l-rows l-fill (t .l) l) (table n (λ j. 0))
 
--- by 5 to 7, 13 and 14: a clean row that isn't empty, dense memory that is zero, U's rows and their table, and room
-pub record Takes (p n : ℕ) (mode : Mode) (rank u-fill l-rows l-fill : ℕ) (cols vals dense : List ℕ) (u : Upper) (l : Lower) : Type 0 where
+-- by 5 to 7, 13 and 14: a clean row that isn't empty, dense memory that is zero, U's rows and their table, and room for what the row comes to
+pub record Takes (on : Bool) (p n : ℕ) (mode : Mode) (rank u-fill l-rows l-fill : ℕ) (cols vals dense : List ℕ) (u : Upper) (l : Lower) : Type 0 where
   pub modulus : isModulus p ≡ true
   pub narrow : n ≤ 1024
   pub zero : dense ≡ table n (λ j. 0)
@@ -51,8 +51,8 @@ pub record Takes (p n : ℕ) (mode : Mode) (rank u-fill l-rows l-fill : ℕ) (co
   pub echelon : Echelon p n rank (S.upper (u .cols) (u .vals) (u .ptrs) (u .pivots)) heads
   pub pivoted : Pivoted n (u .cols) (u .vals) (u .ptrs) (u .pivots)
   pub low : rank ≤ 1024
-  pub u-columns : u-fill + n ≤ length (u .cols)
-  pub u-numbers : u-fill + n ≤ length (u .vals)
+  pub u-columns : u-fill + length (S.step on p n rank (S.upper (u .cols) (u .vals) (u .ptrs) (u .pivots)) (entries cols vals) .u) ≤ length (u .cols)
+  pub u-numbers : u-fill + length (S.step on p n rank (S.upper (u .cols) (u .vals) (u .ptrs) (u .pivots)) (entries cols vals) .u) ≤ length (u .vals)
   pub u-pointer : rank + 1 < length (u .ptrs)
   pub l-columns : keeps mode ≡ true → l-fill + (rank + 1) ≤ length (l .cols)
   pub l-numbers : mode ≡ Full → l-fill + (rank + 1) ≤ length (l .vals)

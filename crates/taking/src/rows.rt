@@ -35,7 +35,7 @@ pub fn walk_row(
     l_ptrs: &mut [usize],
     pivots: &mut [u32],
 ) -> Walked
-    requires { ⌜ Takes p (length (now dense)) mode rank «u_fill» «l_rows» «l_fill» (now cols) (now vals) (now dense) (upper (now «u_cols») (now «u_vals») (now «u_ptrs») (now pivots)) (lower (now «l_cols») (now «l_vals») (now «l_ptrs»)) ⌝ }
+    requires { ⌜ Takes on p (length (now dense)) mode rank «u_fill» «l_rows» «l_fill» (now cols) (now vals) (now dense) (upper (now «u_cols») (now «u_vals») (now «u_ptrs») (now pivots)) (lower (now «l_cols») (now «l_vals») (now «l_ptrs»)) ⌝ }
     ensures { λ r. ⌜ shown r (upper (now («u_cols» .exit)) (now («u_vals» .exit)) (now («u_ptrs» .exit)) (now (pivots .exit))) (lower (now («l_cols» .exit)) (now («l_vals» .exit)) (now («l_ptrs» .exit))) (now (dense .exit)) ≡ storing mode (length (now (dense .entry))) rank «u_fill» «l_rows» «l_fill» (step on p (length (now (dense .entry))) rank (Rattle.walk.specs.Step.upper (now («u_cols» .entry)) (now («u_vals» .entry)) (now («u_ptrs» .entry)) (now (pivots .entry))) (entries (now (cols .entry)) (now (vals .entry))) .answer) (step on p (length (now (dense .entry))) rank (Rattle.walk.specs.Step.upper (now («u_cols» .entry)) (now («u_vals» .entry)) (now («u_ptrs» .entry)) (now (pivots .entry))) (entries (now (cols .entry)) (now (vals .entry)))) (upper (now («u_cols» .entry)) (now («u_vals» .entry)) (now («u_ptrs» .entry)) (now (pivots .entry))) (lower (now («l_cols» .entry)) (now («l_vals» .entry)) (now («l_ptrs» .entry))) ⌝ }
 {
     let n = dense.len();

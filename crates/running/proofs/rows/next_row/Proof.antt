@@ -2,7 +2,7 @@
 -- Assumes nothing.
 use borrow.Author.Needs.{needs}
 use Rattle.sparse.specs.Matrix.{part, row}
-use Rattle.running.proofs.Nexts.{next-place, next-answer, next-offers, next-stopped, next-taken}
+use Rattle.running.proofs.Nexts.{next-place, next-offers, next-stopped, next-taken}
 use Rattle.running.proofs.rows.next_row.Statement.{statement}
 use Rattle.running.proofs.rows.next_row.Tie as tie
 
@@ -58,17 +58,11 @@ enum-known-added c = search needs
 enum-known-added-2 : tie.Need-enum-known-added-2
 enum-known-added-2 c = search needs
 
-number-of-requires : tie.Need-number-of-requires
-number-of-requires c κs = search needs
+tell-requires : tie.Need-tell-requires
+tell-requires c κs = search needs
 
-mul-answers : tie.Need-mul-answers
-mul-answers c = search (needs, next-answer (c .before .before .before .before .before .before .before .before .before .before .before .before .before .before .before .before .before .before .before .before .before .before .before .before .before .before .before .before .before .before .before .before .before .before .before .before .before .before .before .before .before .before .before .before .before .before .before .before .pre), next-place (c .before .before .before .before .before .before .before .before .before .before .before .before .before .before .before .before .before .before .before .before .before .before .before .before .before .before .before .before .before .before .before .before .before .before .before .before .before .before .before .before .before .before .before .before .before .before .before .before .pre))
-
-slice-write-answers : tie.Need-slice-write-answers
-slice-write-answers c = search (needs, next-answer (c .before .before .before .before .before .before .before .before .before .before .before .before .before .before .before .before .before .before .before .before .before .before .before .before .before .before .before .before .before .before .before .before .before .before .before .before .before .before .before .before .before .before .before .before .before .before .before .before .pre))
-
-add-t58 : tie.Need-add-t58
-add-t58 c = search (needs, next-place (c .before .before .before .before .before .before .before .before .before .before .before .before .before .before .before .before .before .before .before .before .before .before .before .before .before .before .before .before .before .before .before .before .before .before .before .before .before .before .before .before .before .before .before .before .before .before .before .before .before .pre))
+add-t61 : tie.Need-add-t61
+add-t61 c = search (needs, next-place (c .before .before .before .before .before .before .before .before .before .before .before .before .before .before .before .before .before .before .before .before .before .before .before .before .before .before .before .before .before .before .before .before .before .before .before .before .before .before .before .before .before .before .before .before .before .before .before .before .before .before .before .before .pre))
 
 ended-requires : tie.Need-ended-requires
 ended-requires c κs = search needs
@@ -130,7 +124,7 @@ same-length-17 c = search needs
 
 returns-2 : tie.Need-returns-2
 unfolding row part
-returns-2 c = next-taken (c .before .before .before .before .before .before .before .before .before .before .before .before .before .before .before .before .before .before .before .before .before .before .before .before .before .before .before .before .before .before .before .before .before .before .before .before .before .before .before .before .before .before .before .before .before .before .before .before .before .before .pre) _ (c .before .before .before .before .before .before .before .before .before .before .before .before .before .before .before .before .before .before .before .before .before .before .before .take-row .ensures) _ (c .before .before .before .before .before .added2 .given .1) (c .ended .ensures) (c .before .before .number-of .ensures)
+returns-2 c = next-taken (c .before .before .before .before .before .before .before .before .before .before .before .before .before .before .before .before .before .before .before .before .before .before .before .before .before .before .before .before .before .before .before .before .before .before .before .before .before .before .before .before .before .before .before .before .before .before .before .before .before .before .before .before .before .pre) _ (c .before .before .before .before .before .before .before .before .before .before .before .before .before .before .before .before .before .before .before .before .before .before .before .before .before .before .take-row .ensures) _ (c .before .before .before .before .before .before .before .before .added2 .given .1) (c .ended .ensures) (c .before .before .before .before .tell .ensures)
 
 pub next-row-spec : {M : Type 1} → statement M
 next-row-spec =
@@ -153,10 +147,8 @@ next-row-spec =
     take-row-requires
     enum-known-added
     enum-known-added-2
-    number-of-requires
-    mul-answers
-    slice-write-answers
-    add-t58
+    tell-requires
+    add-t61
     ended-requires
     same-length
     same-length-2

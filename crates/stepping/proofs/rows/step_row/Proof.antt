@@ -13,7 +13,7 @@ returns : tie.Need-returns
 returns c = ready-at-once _ (c .before .before .before .before .before .before .before .before .before .before .before .before .pre) (sym (c .before .is-at-once .ensures) ∙ c .if1 .taken)
 
 walk-row-requires : tie.Need-walk-row-requires
-walk-row-requires c κs = ready-takes (c .before .before .before .before .before .before .before .before .before .before .before .before .before .before .before .before .before .before .before .before .pre) (sym (c .before .before .before .before .before .before .before .before .before .is-at-once .ensures) ∙ c .before .before .before .before .before .before .before .before .if1 .left)
+walk-row-requires c κs = ready-takes (c .before .before .before .before .before .before .before .before .before .before .before .before .before .before .before .before .before .before .before .before .pre) (sym (c .before .before .before .before .before .before .before .before .before .is-at-once .ensures) ∙ c .before .before .before .before .before .before .before .before .if1 .left) _
 
 after-requires : tie.Need-after-requires
 after-requires c κs = ready-countable (c .before .before .before .before .before .before .before .before .before .before .before .before .before .before .before .before .before .before .before .before .before .before .before .before .before .before .before .before .before .before .before .before .before .before .before .before .before .pre) (sym (c .before .before .before .before .before .before .before .before .before .before .before .before .before .before .before .before .before .before .before .before .before .before .before .before .before .before .is-at-once .ensures) ∙ c .before .before .before .before .before .before .before .before .before .before .before .before .before .before .before .before .before .before .before .before .before .before .before .before .before .if1 .left) _ (c .before .before .before .before .before .before .before .before .before .before .before .before .before .before .before .before .walk-row .ensures)

@@ -1,0 +1,2 @@
+pub mod Anews
+pub mod Promises

@@ -1,0 +1,4 @@
+pub mod Dets
+pub mod Fulls
+pub mod Notebook
+pub mod Promises

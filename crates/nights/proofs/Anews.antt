@@ -1,0 +1,66 @@
+-- Rows taken from a fresh start: each leaves a state, and each row taken was answered None exactly if it is a combination of the rows accepted before it.
+-- Assumes nothing.
+use mathlib.Core.Path.{_≡_, refl, sym, subst}
+use mathlib.Core.Bool.{Bool}
+use mathlib.Core.List.{List, []}
+use Prim.Native.Nat.{ℕ, _<_}
+use native.Mathlib.Omega.{arith}
+use lib.ListN.{length, getD}
+use Rattle.lists.proofs.Ontos.{onto-nil}
+use Rattle.lists.proofs.Tables.{length-table}
+use Rattle.sparse.specs.Lent.{outcome}
+use Rattle.sparse.specs.Matrix.{Matrix, row}
+use Rattle.sparse.specs.Rows.{entries, rowsOf, rowAt}
+use Rattle.state.specs.Fresh.{counts}
+use Rattle.state.specs.declared.Counts.{Counts}
+use Rattle.state.specs.declared.Mode.{Mode}
+use Rattle.steps.specs.Rows.{CleanRow}
+use Rattle.stepping.specs.Asks.{Stands}
+use Rattle.stepping.specs.Take.{lists}
+use Rattle.stepping.proofs.MatrixRows.{row-here, row-offered}
+use Rattle.keeping.proofs.Pasts.{empty-past}
+use Rattle.telling.specs.Runs.{run}
+use Rattle.telling.specs.declared.Reduced.the-variants.{Taken}
+use Rattle.running.specs.Asks.{Fits}
+use Rattle.running.specs.Rows.{written, takeRows, Night, night}
+use Rattle.batches.specs.Asks.{Begins, Anew}
+use Rattle.batches.specs.Batch.{restarted}
+use Rattle.batches.proofs.Batches.{anew-begins}
+use Rattle.nights.specs.Meant.{nothing}
+use Rattle.nights.proofs.Folds.{runIn, Ends, rows-end}
+use Rattle.nights.proofs.Rows.{Kept}
+
+pub rows-many : (a : Matrix) → length (rowsOf a) ≡ a .nrows
+unfolding rowsOf
+rows-many a = length-table (a .nrows) (row (a .row-ptrs) (entries (a .col-idcs) (a .values)))
+
+rows-clean : (c : Counts) (a : Matrix) → Fits c a → (i : ℕ) → i < length (rowsOf a) → CleanRow (c .modulus) (c .ncols) (getD (rowsOf a) i [])
+unfolding rowAt
+rows-clean c a f i h =
+    let l : i < a .nrows = omega (arith, rows-many a) in
+    subst (CleanRow (c .modulus) (c .ncols)) (row-here (c .modulus) a (f .rows) i l) (row-offered (c .modulus) a (f .rows) c refl (f .columns) i l .clean)
+
+module _ (on check : Bool) {p : ℕ} {mode : Mode} {a : Matrix} {w : Night} (anew : Anew p mode a w) where
+  abbrev c : Counts
+  c = counts mode p (a .ncols) 0 0 0 0
+
+  begins : Begins c a (night (restarted mode (a .ncols) (w .memory)) (w .answers) (w .dense))
+  begins = anew-begins anew
+
+  start : Kept c (w .answers) [] (run 0 c) (written (restarted mode (a .ncols) (w .memory)) (w .answers))
+  start =
+      let s : Stands c (lists (restarted mode (a .ncols) (w .memory)) []) = record { opened = begins .stands .opened; state = begins .stands .state } in
+      record {
+        stands = s;
+        past = empty-past c (lists (restarted mode (a .ncols) (w .memory)) []) s refl;
+        meant = nothing;
+        mode = refl;
+        modulus = refl;
+        ncols = refl;
+        taken = refl;
+        numbers = λ h. sym (onto-nil (w .answers));
+      }
+
+  pub anew-ends : Ends (run 0 c) c (w .answers) (rowsOf a) (takeRows on check (rowsOf a) (outcome (Taken (run 0 c)) (written (restarted mode (a .ncols) (w .memory)) (w .answers))))
+  unfolding runIn
+  anew-ends = rows-end on check (run 0 c) c (w .answers) (rowsOf a) (rows-clean c a (begins .fits)) (Taken (run 0 c)) (written (restarted mode (a .ncols) (w .memory)) (w .answers)) [] start

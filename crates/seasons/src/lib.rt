@@ -1,0 +1,1 @@
+// Laws only: what None means over any sequence of calls.
