@@ -7,10 +7,9 @@ use Prim.Native.Nat.{ℕ, _<_}
 use native.Mathlib.Omega.{arith}
 use lib.ListN.{length, getD}
 use Rattle.lists.proofs.Ontos.{onto-nil}
-use Rattle.lists.proofs.Tables.{length-table}
 use Rattle.sparse.specs.Lent.{outcome}
-use Rattle.sparse.specs.Matrix.{Matrix, row}
-use Rattle.sparse.specs.Rows.{entries, rowsOf, rowAt}
+use Rattle.sparse.specs.Matrix.{Matrix}
+use Rattle.sparse.specs.Rows.{rowsOf, rowAt}
 use Rattle.state.specs.Fresh.{counts}
 use Rattle.state.specs.declared.Counts.{Counts}
 use Rattle.state.specs.declared.Mode.{Mode}
@@ -23,16 +22,13 @@ use Rattle.telling.specs.Runs.{run}
 use Rattle.telling.specs.declared.Reduced.the-variants.{Taken}
 use Rattle.running.specs.Asks.{Fits}
 use Rattle.running.specs.Rows.{written, takeRows, Night, night}
+use Rattle.running.proofs.Folds.{rows-many}
 use Rattle.batches.specs.Asks.{Begins, Anew}
 use Rattle.batches.specs.Batch.{restarted}
 use Rattle.batches.proofs.Batches.{anew-begins}
 use Rattle.nights.specs.Meant.{nothing}
 use Rattle.nights.proofs.Folds.{runIn, Ends, rows-end}
 use Rattle.nights.proofs.Rows.{Kept}
-
-pub rows-many : (a : Matrix) → length (rowsOf a) ≡ a .nrows
-unfolding rowsOf
-rows-many a = length-table (a .nrows) (row (a .row-ptrs) (entries (a .col-idcs) (a .values)))
 
 rows-clean : (c : Counts) (a : Matrix) → Fits c a → (i : ℕ) → i < length (rowsOf a) → CleanRow (c .modulus) (c .ncols) (getD (rowsOf a) i [])
 unfolding rowAt

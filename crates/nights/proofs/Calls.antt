@@ -15,11 +15,12 @@ use Rattle.state.specs.declared.Mode.{Mode}
 use Rattle.telling.specs.Runs.{run}
 use Rattle.telling.specs.declared.Reduced.the-variants.{Taken}
 use Rattle.running.specs.Rows.{written, takeRows, Night}
+use Rattle.running.proofs.Folds.{rows-many}
 use Rattle.batches.specs.Batch.{takeMatrix, restarted, takeAnew}
 use Rattle.anew.specs.Calls.{fromMatrixTest, fromMatrix}
 use Rattle.anew.proofs.Anews.{from-anew, from-room}
 use Rattle.nights.specs.Meant.{Answers}
-use Rattle.nights.proofs.Anews.{rows-many, anew-ends}
+use Rattle.nights.proofs.Anews.{anew-ends}
 use Rattle.nights.proofs.Folds.{runIn, Ends, ends-few}
 
 module _ (on check : Bool) (p : ℕ) (mode : Mode) (a : Matrix) (w : Night) (good : fromMatrixTest p mode a (w .dense) (w .answers) (w .memory .u-ptrs) (w .memory .l-ptrs) (w .memory .pivots) ≡ Good) where

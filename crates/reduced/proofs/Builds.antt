@@ -1,11 +1,12 @@
 -- Back substitution: rows taken by falling head are each accepted at their own head, and U's rows are reduced and keep the span.
 -- Assumes nothing.
-use mathlib.Core.Path.{_≡_, refl, ap}
+use mathlib.Core.Path.{_≡_, refl, ap, _∙_}
 use mathlib.Core.Bool.{true}
 use mathlib.Core.List.{List}
 use Prim.Native.Nat.{ℕ, zero, suc, _≤_, _<_}
 use native.Mathlib.Nat.{not-suc-le-zero}
 use native.Mathlib.Omega.{arith}
+use lib.ListN.{length, length-set}
 use Rattle.lists.specs.Table.{table}
 use Rattle.lists.proofs.Tables.{length-table, getD-table}
 use Rattle.linear.proofs.Span.{span-trans}
@@ -36,6 +37,16 @@ pub finished-built : (p n : ℕ) → n ≤ 1024 → (rows : ℕ → List Entry) 
 unfolding finished pivotAt
 finished-built p n wide rows zero = empty (finished p n rows 0) (record { wide = wide; long = omega (arith, length-table n (λ c. mark)); marks = λ c l. getD-table n (λ c. mark) c 0 l })
 finished-built p n wide rows (suc k) = more k (finished p n rows k) (finished-built p n wide rows k) (answered true p n k (finished p n rows k) (rows k) .answer) (finished p n rows (suc k)) (extended-next p n k (finished p n rows k) (rows k))
+
+-- and keep the table's length
+pub finished-long : (p n : ℕ) (rows : ℕ → List Entry) (k : ℕ) → length (finished p n rows k .pivots) ≡ n
+unfolding finished extended placed
+finished-long p n rows zero = length-table n (λ c. mark)
+finished-long p n rows (suc k) = go (answered true p n k (finished p n rows k) (rows k) .answer) (finished-long p n rows k)
+  where
+    go : (a : Answer) → length (finished p n rows k .pivots) ≡ n → length (placed k (finished p n rows k) (answered true p n k (finished p n rows k) (rows k) .u) a .pivots) ≡ n
+    go None e = e
+    go (Accepted g) e = length-set (finished p n rows k .pivots) g k ∙ e
 
 -- of no rows
 finished-empty : {p n : ℕ} {rows : ℕ → List Entry} {h : ℕ → ℕ} {u : Upper} → NoPivots n u → Finished p n 0 rows h u

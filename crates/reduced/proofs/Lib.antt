@@ -1,3 +1,4 @@
+pub mod Alikes
 pub mod Backs
 pub mod Builds
 pub mod Distincts

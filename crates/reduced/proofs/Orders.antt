@@ -91,6 +91,10 @@ module _ {p n k : ℕ} {u : Upper} {h : ℕ → ℕ} (echelon : Echelon p n k u 
   low : {i : ℕ} → i < k → i < length (pivotColumns (u .pivots) n)
   low l = omega (arith, columns-many)
 
+  -- each of them is a row of U
+  pub down-within : {i : ℕ} → i < k → rowDown (u .pivots) n i < k
+  down-within {i} l = row-within i (low l)
+
   -- U's rows, stored
   module _ (stored : ℕ → List Entry) (means : (r : ℕ) → r < k → (j : ℕ) → j < n → valueOf (stored r) j ≡ u .value r j) where
     pub down-spans : SameSpan p n k (u .value) k (λ i. valueOf (stored (rowDown (u .pivots) n i)))

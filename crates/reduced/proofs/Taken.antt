@@ -27,7 +27,7 @@ use Rattle.reduced.specs.Building.{Falling, Finished}
 use Rattle.reduced.proofs.Uniques.{head-there}
 
 -- what stands in place k already
-last-same {ℓ} : {A : Type ℓ} (k : ℕ) (f : ℕ → A) → withLast k (f k) f ≡ f
+pub last-same {ℓ} : {A : Type ℓ} (k : ℕ) (f : ℕ → A) → withLast k (f k) f ≡ f
 unfolding withLast
 last-same k f = λ t i. go i (ℕ-discrete i k) t
   where

@@ -127,7 +127,8 @@ going-start on check s = record {
   long = record { u-cols = refl; u-vals = refl; u-ptrs = refl; l-cols = refl; l-vals = refl; l-ptrs = refl; pivots = refl; answers = refl };
 }
 
-rows-many : (a : Matrix) → length (rowsOf a) ≡ a .nrows
+-- as many rows as are counted
+pub rows-many : (a : Matrix) → length (rowsOf a) ≡ a .nrows
 unfolding rowsOf
 rows-many a = length-table (a .nrows) (row (a .row-ptrs) (entries (a .col-idcs) (a .values)))
 

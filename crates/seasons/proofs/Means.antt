@@ -10,6 +10,8 @@ use native.Mathlib.Numerals.{add-one}
 use native.Mathlib.Omega.{arith}
 use lib.ListN.{length, length-map}
 use Rattle.linear.specs.Combination.{Combination}
+use Rattle.linear.proofs.Span.{span-row, span-trans}
+use Rattle.sparse.specs.Lent.{Lent}
 use Rattle.sparse.specs.Put.{colsOf, valuesOf}
 use Rattle.sparse.specs.Rows.{Entry, entries}
 use Rattle.sparse.specs.declared.Tested.the-variants.{Good}
@@ -21,7 +23,7 @@ use Rattle.walk.specs.declared.Answer.{Answer}
 use Rattle.walk.specs.declared.Answer.the-variants.{Accepted, None}
 use Rattle.steps.specs.History.{answered, Next, stays, grows}
 use Rattle.steps.specs.Rows.{valueOf, CleanRow}
-use Rattle.steps.specs.Setting.{Inverts, withLast}
+use Rattle.steps.specs.Setting.{Inverts, Echelon, withLast}
 use Rattle.steps.proofs.Histories.{Held, held-same, held-grows, held-none}
 use Rattle.steps.proofs.Lasts.{last-before}
 use Rattle.stepping.specs.Asks.{Stands, Offered}
@@ -35,7 +37,11 @@ use Rattle.widening.specs.AddCols.{addColsTest, widerCounts, widened}
 use Rattle.widening.specs.Inserted.{Inserted}
 use Rattle.widening.proofs.Passed.{widenable}
 use Rattle.widening.proofs.Stands.{add-cols-stands, add-cols-rows}
-use Rattle.seasons.specs.Reached.{Reached, fresh, row, columns}
+use Rattle.reduced.specs.Reduced.{SameSpan}
+use Rattle.backing.specs.Back.{backCounts, reducer, backSubstitute}
+use Rattle.backing.specs.declared.Backed.the-variants.{Made}
+use Rattle.backing.proofs.Results.{back-counted, back-stands, back-rows-span}
+use Rattle.seasons.specs.Reached.{Reached, fresh, row, columns, back}
 use Rattle.seasons.proofs.Widths.{span-new}
 
 -- a state whose U has as many rows as were accepted, and spans what they do
@@ -48,6 +54,10 @@ pub record Known (p n k : ℕ) (r : ℕ → ℕ → ℕ) (c : Counts) (m : Memor
 
 known-inverts : {p n k : ℕ} {r : ℕ → ℕ → ℕ} {c : Counts} {m : Memory} → Known p n k r c m → Inverts p
 known-inverts {c = c} {m = m} w = subst Inverts (w .modulus) (stands-inverts c (lists m []) (w .stands))
+
+-- U in memory that is a state
+echelon-of : (c : Counts) (m : Memory) (s : Stands c (lists m [])) {p n k : ℕ} → c .modulus ≡ p → c .ncols ≡ n → c .rank ≡ k → Echelon p n k (rowsIn m) (heads c (lists m []) s)
+echelon-of c m s q e z = rw (← q, ← e, ← z) (stands-echelon c (lists m []) s)
 
 -- a row taken, by its answer
 held-after : {p n k : ℕ} {r : ℕ → ℕ → ℕ} {u v : Upper} → Inverts p → Held p n k r u → (on : Bool) (es : List Entry) → CleanRow p n es → {a : Answer} → Next on p n k u es a v → Held p n (k + cond (isNone a) 0 1) (withLast k (valueOf es) r) v
@@ -105,9 +115,6 @@ module _ {p n k : ℕ} {r : ℕ → ℕ → ℕ} {c : Counts} {m : Memory} (w : 
       }
 
   module _ (ps : List ℕ) (good : addColsTest c ps m ≡ Good) (s : ℕ → ℕ → ℕ) (rows : (i : ℕ) → i < k → Inserted n ps (r i) (s i)) where
-    abbrev after : Lists
-    after = lists (widened c ps m) []
-
     pub known-columns : Known p (n + length ps) k s (widerCounts c (length ps)) (widened c ps m)
     unfolding widerCounts
     known-columns =
@@ -121,12 +128,48 @@ module _ {p n k : ℕ} {r : ℕ → ℕ → ℕ} {c : Counts} {m : Memory} (w : 
           ncols = ap (λ (i : ℕ). i + length ps) (w .ncols);
           rank = w .rank;
           held = record {
-            h = heads (widerCounts c (length ps)) after z;
-            echelon = rw (← w .modulus, ← w .ncols, ← w .rank) (stands-echelon (widerCounts c (length ps)) after z);
+            h = heads (widerCounts c (length ps)) (lists (widened c ps m) []) z;
+            echelon = echelon-of (widerCounts c (length ps)) (widened c ps m) z (w .modulus) (ap (λ (i : ℕ). i + length ps) (w .ncols)) (w .rank);
             to = λ i l. span-new pos (t .sorted) (rw (← w .ncols) (t .low)) rows (moved i l) (w .held .to i l);
             from = λ i l. span-new pos (t .sorted) (rw (← w .ncols) (t .low)) moved (rows i l) (w .held .from i l);
           };
         }
+
+  module _ (l : Lent) (dense : List ℕ) (after : Counts) (made : backSubstitute c m l dense .answer ≡ Made after) where
+    abbrev now : Memory
+    now = reducer m (backSubstitute c m l dense .memory)
+
+    left : Stands after (lists now [])
+    left = let s = back-stands c m l dense made in record { opened = s .opened; state = s .state }
+
+    modulus : after .modulus ≡ p
+    unfolding backCounts
+    modulus = ap (λ (x : Counts). x .modulus) (back-counted c m l dense made) ∙ w .modulus
+
+    ncols : after .ncols ≡ n
+    unfolding backCounts
+    ncols = ap (λ (x : Counts). x .ncols) (back-counted c m l dense made) ∙ w .ncols
+
+    rank : after .rank ≡ k
+    unfolding backCounts
+    rank = ap (λ (x : Counts). x .rank) (back-counted c m l dense made) ∙ w .rank
+
+    spans : SameSpan p n k (rowsIn m .value) k (rowsIn now .value)
+    spans = rw (← w .modulus, ← w .ncols, ← w .rank) (back-rows-span c m l dense made)
+
+    pub known-back : Known p n k r after now
+    known-back = record {
+      stands = left;
+      modulus = modulus;
+      ncols = ncols;
+      rank = rank;
+      held = record {
+        h = heads after (lists now []) left;
+        echelon = echelon-of after now left modulus ncols rank;
+        to = λ i l. span-trans (w .held .to) (spans .same (rowsIn now .value i) .1 (span-row i l));
+        from = λ i l. spans .same (r i) .0 (w .held .from i l);
+      };
+    }
 
 -- a fresh start
 known-fresh : {p n : ℕ} {r : ℕ → ℕ → ℕ} (c : Counts) (m : Memory) → Stands c (lists m []) → c .modulus ≡ p → c .ncols ≡ n → c .rank ≡ 0 → Known p n 0 r c m
@@ -137,7 +180,7 @@ known-fresh c m s q e z = record {
   rank = z;
   held = record {
     h = heads c (lists m []) s;
-    echelon = rw (← q, ← e, ← z) (stands-echelon c (lists m []) s);
+    echelon = echelon-of c m s q e z;
     to = λ i l. absurd (not-suc-le-zero l);
     from = λ i l. absurd (not-suc-le-zero l);
   };
@@ -147,6 +190,7 @@ pub reached-known : {p n k : ℕ} {r : ℕ → ℕ → ℕ} {c : Counts} {m : Me
 reached-known (fresh n mode o good uc uv lc lv r) = known-fresh _ _ (fresh-stands _ n mode o good uc uv lc lv []) refl refl refl
 reached-known (row n k r c m past on es clean room) = known-row (reached-known past) on es clean room
 reached-known (columns n k r c m past ps good s rows) = known-columns (reached-known past) ps good s rows
+reached-known (back n k r c m past l dense after made) = known-back (reached-known past) l dense after made
 
 -- what None means, whatever was called before
 pub reached-none : {p n k : ℕ} {r : ℕ → ℕ → ℕ} {c : Counts} {m : Memory} → Reached p n k r c m → (on : Bool) (es : List Entry) → CleanRow p n es → (rowStep on c es m .answer .answer ≡ None) ↔ Combination p n k r (valueOf es)

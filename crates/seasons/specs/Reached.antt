@@ -4,6 +4,7 @@ use mathlib.Core.Bool.{Bool, cond}
 use mathlib.Core.List.{List}
 use Prim.Native.Nat.{ℕ, _+_, _<_}
 use lib.ListN.{length}
+use Rattle.sparse.specs.Lent.{Lent}
 use Rattle.sparse.specs.Rows.{Entry}
 use Rattle.sparse.specs.declared.Tested.the-variants.{Good}
 use Rattle.state.specs.Fresh.{Opening, counts, started, newTest}
@@ -16,6 +17,8 @@ use Rattle.steps.specs.Setting.{withLast}
 use Rattle.stepping.specs.Take.{roomAsked, rowStep}
 use Rattle.widening.specs.AddCols.{addColsTest, widerCounts, widened}
 use Rattle.widening.specs.Inserted.{Inserted}
+use Rattle.backing.specs.Back.{reducer, backSubstitute}
+use Rattle.backing.specs.declared.Backed.the-variants.{Made}
 
 -- n columns and k rows r accepted since the fresh start, inserted columns as zeros; counts and lists are these. Every call that
 -- takes rows is a fold of the step; a refused call, and what a call refuses, changes nothing
@@ -26,3 +29,5 @@ pub data Reached (p : ℕ) : ℕ → ℕ → (ℕ → ℕ → ℕ) → Counts �
       → Reached p n (k + cond (isNone (rowStep on c es m .answer .answer)) 0 1) (withLast k (valueOf es) r) (rowStep on c es m .answer .counts) (rowStep on c es m .memory)
   columns : (n k : ℕ) (r : ℕ → ℕ → ℕ) (c : Counts) (m : Memory) → Reached p n k r c m → (ps : List ℕ) → addColsTest c ps m ≡ Good → (s : ℕ → ℕ → ℕ) → ((i : ℕ) → i < k → Inserted n ps (r i) (s i))
       → Reached p (n + length ps) k s (widerCounts c (length ps)) (widened c ps m)
+  back : (n k : ℕ) (r : ℕ → ℕ → ℕ) (c : Counts) (m : Memory) → Reached p n k r c m → (l : Lent) (dense : List ℕ) (after : Counts) → backSubstitute c m l dense .answer ≡ Made after
+      → Reached p n k r after (reducer m (backSubstitute c m l dense .memory))

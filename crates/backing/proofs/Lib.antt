@@ -1,0 +1,12 @@
+pub mod Clearings
+pub mod Downs
+pub mod Filled
+pub mod Fillings
+pub mod Fits
+pub mod Makes
+pub mod Most
+pub mod Notebook
+pub mod Orderings
+pub mod Passed
+pub mod Promises
+pub mod Results

@@ -1,0 +1,1 @@
+// Laws only: the sign of a determinant by the order in which rows were accepted.
