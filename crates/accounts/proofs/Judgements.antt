@@ -30,7 +30,7 @@ storable p v e =
     record { pos = omega (arith, eqb-false v 0 (f .0)); below = leb-false p v (f .1) }
 
 -- an entry that isn't astray names an earlier row
-names-earlier : (p : ℕ) (u : Matrix) (k : ℕ) (l : List Entry) (i : ℕ) → astray p u k l i ≡ false → entryAt l i .col < k
+pub names-earlier : (p : ℕ) (u : Matrix) (k : ℕ) (l : List Entry) (i : ℕ) → astray p u k l i ≡ false → entryAt l i .col < k
 unfolding astray
 names-earlier p u k l i e =
     let falls = ltb 0 i && leb (headOf u (entryAt l i .col)) (headOf u (entryAt l (i - 1) .col)) in

@@ -1,13 +1,13 @@
 -- The whole slices of U: where they and the pivots are a state, U's rows have distinct heads.
 -- Assumes nothing.
-use mathlib.Core.Path.{_≡_, sym, ap, _∙_}
+use mathlib.Core.Path.{_≡_, sym, ap, subst, _∙_}
 use mathlib.Core.Bool.{false, _||_}
 use mathlib.Core.List.{List}
 use Prim.Native.Nat.{ℕ, _+_, _-_, _≤_, _<_}
 use native.Mathlib.Nat.{le-refl}
 use native.Mathlib.Omega.{arith}
 use borrow.Author.Tests.{le-ltb, lt-leb}
-use lib.ListN.{length}
+use lib.ListN.{length, getD}
 use lib.Seq.{take-all}
 use Rattle.lists.specs.Find.{any}
 use Rattle.linear.proofs.Heads.{Heads}
@@ -20,11 +20,12 @@ use Rattle.state.specs.Asks.{Opened}
 use Rattle.state.specs.Memory.{atMost, places}
 use Rattle.state.specs.State.{isRefused, headOf, headless, misplaced, uFault, uLost, uRows}
 use Rattle.state.proofs.Faults.{not-refused}
+use Rattle.walk.specs.Asks.{PivotRow}
 use Rattle.walk.specs.Step.{upper}
 use Rattle.states.proofs.Echelons.{headAt, state-row, state-echelon}
 
 -- a slice within the limit has all its places
-all-places : (xs : List ℕ) → length xs ≤ 1048576 → places xs ≡ length xs
+pub all-places : (xs : List ℕ) → length xs ≤ 1048576 → places xs ≡ length xs
 unfolding places atMost
 all-places xs h = rw (le-ltb 1048576 (length xs) h)
 
@@ -91,3 +92,9 @@ module _ (p n : ℕ) (cols vals ptrs pivots : List ℕ) (wide : n ≤ length piv
   pub whole-heads : Heads p n rank (valueAt u) (headOf u)
   unfolding valueAt upper
   whole-heads = heads-same at-first (state-echelon p n rank (length vals) cols vals ptrs pivots opened found whole .heads)
+
+  -- each with its head
+  pub whole-row : (r : ℕ) → r < rank → PivotRow n (getD cols (getD ptrs r 0) 0) cols vals ptrs r
+  whole-row r h =
+      let s = state-row p n rank (length vals) cols vals ptrs pivots opened found whole r h in
+      subst (λ (k : ℕ). PivotRow n k cols vals ptrs r) (sym (s .starts)) s

@@ -3,7 +3,7 @@
 // The lists of a reducer are lent in this order: u_cols, u_vals, u_ptrs, l_cols, l_vals, l_ptrs,
 // pivots. Row r of U has the entries from u_ptrs[r] up to u_ptrs[r + 1], and so has L.
 pub mod inside;
-mod multipliers;
+pub mod multipliers;
 mod rows;
 pub mod start;
 

@@ -68,7 +68,7 @@ fn values_fault(p: u32, fill: usize, vals: &[u32]) -> bool
 }
 
 // Whether pointers don't start at 0, fall, or don't end at the fill.
-fn is_crooked(rows: usize, fill: usize, ptrs: &[usize]) -> bool
+pub fn is_crooked(rows: usize, fill: usize, ptrs: &[usize]) -> bool
     requires { ⌜ rows < length (now ptrs) ⌝ }
     ensures { λ r. ⌜ r ≡ crooked rows fill (now (ptrs .entry)) ⌝ }
 {

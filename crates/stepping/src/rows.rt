@@ -52,7 +52,7 @@ pub fn room_asked(
 }
 
 // Step 1: an empty row, or rank equal to the column count.
-fn is_at_once(ncols: u32, rank: usize, len: usize) -> bool
+pub fn is_at_once(ncols: u32, rank: usize, len: usize) -> bool
     ensures { λ r. ⌜ r ≡ eqb len 0 || eqb rank ncols ⌝ }
 {
     if len == 0 {
@@ -130,7 +130,7 @@ fn after(counts: Counts, walked: Walked) -> Stepped
     }
 }
 
-fn one_if(counted: bool) -> usize
+pub fn one_if(counted: bool) -> usize
     ensures { λ r. ⌜ r ≡ oneIf counted ⌝ }
 {
     if counted {

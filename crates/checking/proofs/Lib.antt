@@ -1,0 +1,5 @@
+pub mod Promises
+pub mod Slices
+pub mod Sounds
+pub mod Turns
+pub mod Verdicts

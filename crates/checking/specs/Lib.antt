@@ -1,0 +1,3 @@
+pub mod Asks
+pub mod Check
+pub mod Rows
