@@ -39,7 +39,7 @@ def second():
 
 
 def replay(name="replay"):
-    """Our program: replay, or replay_rows."""
+    """Our program of that name."""
     program = BIN / name
     if not program.exists():
         subprocess.run(["rt", "check", name], cwd=ROOT)

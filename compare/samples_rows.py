@@ -310,30 +310,32 @@ def base(call, mode, spare):
     return [*red.counts(), *matrix, [5] * 3, [9] * 3, *red.memory()]
 
 
-def faulty(call, numbers, mode, spare):
-    """A case to which exactly these numbers apply."""
-    args = base(call, mode, spare)
+def faulty(call, numbers, mode, spare, made):
+    """A case to which exactly these numbers apply; `made` is the good case and the faults of a call."""
+    good, bad = made
+    args = good(call, mode, spare)
     for number in numbers:
-        args = faults(call)[number](args)
+        args = bad(call)[number](args)
     applying = call.numbers_of(*args)
     if applying != set(numbers):
         raise AssertionError(f"{call.name}: {numbers} wanted, {applying} found")
     return line(call, args)
 
 
-def by_numbers(call):
-    alone = [faulty(call, [n], mode, spare) for n in call.gives for mode in MODES for spare in (0, 1)]
+def by_numbers(call, made=(base, faults)):
+    alone = [faulty(call, [n], mode, spare, made) for n in call.gives for mode in MODES for spare in (0, 1)]
     yield f"{call.name}: one number applies.", alone
-    pairs = [faulty(call, both, MODES[k % 3], 0) for k, both in enumerate(combinations(call.gives, 2))]
+    pairs = [faulty(call, both, MODES[k % 3], 0, made) for k, both in enumerate(combinations(call.gives, 2))]
     yield f"{call.name}: two numbers apply.", pairs
     three = list(combinations(call.gives, 3))
     chosen = random.Random(SEED).sample(three, min(len(three), 6))
-    yield f"{call.name}: three numbers apply.", [faulty(call, each, MODES[k % 3], 0) for k, each in enumerate(chosen)]
+    threes = [faulty(call, each, MODES[k % 3], 0, made) for k, each in enumerate(chosen)]
+    yield f"{call.name}: three numbers apply.", threes
 
 
 # ---- the whole
 
-def random_sequences():
+def random_sequences(random_sequence):
     """Short ones that are no repetition."""
     rng = random.Random(SEED)
     found = []
@@ -348,7 +350,7 @@ def random_sequences():
 def sequence_groups():
     """(heading, sequences), each of which the Rust is asked too."""
     yield from SEQUENCES
-    yield "Calls in turn, at random.", random_sequences()
+    yield "Calls in turn, at random.", random_sequences(random_sequence)
 
 
 def case_groups():

@@ -217,14 +217,14 @@ def cleared(dense, ncols):
     return [0] * ncols + list(dense[ncols:])
 
 
-def _words(first, red):
+def with_counts(first, red):
     return " ".join([first, *map(str, red.counts())])
 
 
 # --- new ---------------------------------------------------------------------
 
 
-def _cannot_start(mode, u_ptrs, l_ptrs):
+def cannot_start(mode, u_ptrs, l_ptrs):
     """14 at a fresh start: no place for a first pointer of U, or of an L that is kept."""
     return len(u_ptrs) == 0 or (mode in (FULL, PATTERN) and len(l_ptrs) == 0)
 
@@ -244,7 +244,7 @@ def reducer_new_numbers(p, ncols, mode, u_ptrs, l_ptrs, pivots):
         1: not is_modulus(p),
         2: ncols > MOST_ROWS_OR_COLUMNS,
         11: len(pivots) < ncols,
-        14: _cannot_start(mode, u_ptrs, l_ptrs),
+        14: cannot_start(mode, u_ptrs, l_ptrs),
     })
 
 
@@ -254,7 +254,7 @@ def reducer_new(args, applying):
     if applying:
         return refused(min(applying), [u_ptrs, l_ptrs, pivots])
     red = start(p, ncols, mode, [[], [], u_ptrs, [], [], l_ptrs, pivots])
-    return _words("opened", red), [red.u_ptrs, red.l_ptrs, red.pivots]
+    return with_counts("opened", red), [red.u_ptrs, red.l_ptrs, red.pivots]
 
 
 # --- add_row -----------------------------------------------------------------
@@ -286,7 +286,7 @@ def _add_row(args, applying, goes_on):
     row = list(zip(cols, vals))
     head = None if is_none_at_once(red, row) else take(red, row, goes_on)
     first = "none" if head is None else f"accepted {head}"
-    return _words(first, red), [cleared(dense, red.ncols), *red.memory()]
+    return with_counts(first, red), [cleared(dense, red.ncols), *red.memory()]
 
 
 def add_row(args, applying):
@@ -318,7 +318,7 @@ def _taken(red, matrix, dense, answers, how):
     _nrows, _ncols, row_ptrs, col_idcs, values = matrix
     after = list(answers)
     first, many = take_rows(red, rows_of(row_ptrs, col_idcs, values), after, *how)
-    return _words(f"{first} {many}", red), [cleared(dense, red.ncols), after, *red.memory()]
+    return with_counts(f"{first} {many}", red), [cleared(dense, red.ncols), after, *red.memory()]
 
 
 def _number(matrix, applying):
@@ -350,7 +350,7 @@ def from_matrix_numbers(p, mode, *args):
     nrows, ncols = matrix[:2]
     return clean_numbers(p, *matrix) | those_that_apply({
         11: len(dense) < ncols or len(memory[6]) < ncols or len(answers) < nrows,
-        14: _cannot_start(mode, memory[2], memory[5]),
+        14: cannot_start(mode, memory[2], memory[5]),
     })
 
 

@@ -9,6 +9,7 @@ from collections import namedtuple
 
 import form
 import second
+import second_reduced as reduced
 import second_reducer as rules
 from makers_rows import matrix_of, parts
 from rules import ERRORS
@@ -24,6 +25,11 @@ Turn = namedtuple("Turn", "case answer asked expected")
 
 BACK = "_with_back_subs"
 CHECKED = "_check_dependent"
+ADD_COLS, BACK_SUBSTITUTE, DET = "reducer_add_cols", "reducer_back_substitute", "det"
+# What the Rust says of positions and of a matrix that is not square.
+FALLING = "panic assertion failed: col_pos.is_sorted()"
+ABOVE = "panic assertion failed: pivots_idx < self.pivots.len()"
+NOT_SQUARE = "err The matrix is not square"
 RULES = {
     "reducer_new": (rules.reducer_new_numbers, rules.reducer_new),
     "reducer_add_row": (rules.add_row_numbers, rules.add_row),
@@ -36,6 +42,9 @@ RULES = {
     "reducer_from_matrix" + CHECKED + BACK: (
         rules.from_matrix_numbers, rules.from_matrix_check_dependent_with_back_subs,
     ),
+    ADD_COLS: (reduced.add_cols_numbers, reduced.add_cols),
+    BACK_SUBSTITUTE: (reduced.back_substitute_numbers, reduced.back_substitute),
+    DET: (reduced.det_numbers, reduced.det),
 }
 
 
@@ -58,12 +67,29 @@ def from_matrix(p, mode, rows, ncols, dense, answers, back_subs, checked):
     return Step(name, [p, mode, *matrix_of(rows, ncols), dense, answers])
 
 
+def add_cols(positions):
+    return Step(ADD_COLS, [positions])
+
+
+def back_substitute(dense, back_cols, back_vals, back_ptrs):
+    """The three lists are the second U's memory, and U's from then on."""
+    return Step(BACK_SUBSTITUTE, [dense, back_cols, back_vals, back_ptrs])
+
+
+def det(p, rows, ncols, dense):
+    return Step(DET, [p, *matrix_of(rows, ncols), dense])
+
+
 # ---- a step's arguments, and what it leaves
+
+def starts_afresh(step):
+    return step.name == DET or step.name.startswith("reducer_from")
+
 
 def arguments(step, counts, memory):
     if step.name == "reducer_new":
         return [*step.given, memory[2], memory[5], memory[6]]
-    if step.name.startswith("reducer_from"):
+    if starts_afresh(step):
         return [*step.given, *memory]
     return [*counts, *step.given, *memory]
 
@@ -71,17 +97,23 @@ def arguments(step, counts, memory):
 def left(step, memory, words, lists):
     """The counts and the memory after a step that was not refused."""
     counts = [int(word) for word in words.split(" ")[-7:]]
-    if step.name != "reducer_new":
-        return counts, lists[-7:]
-    u_ptrs, l_ptrs, pivots = lists
-    return counts, [*memory[:2], u_ptrs, *memory[3:5], l_ptrs, pivots]
+    if step.name == "reducer_new":
+        u_ptrs, l_ptrs, pivots = lists
+        return counts, [*memory[:2], u_ptrs, *memory[3:5], l_ptrs, pivots]
+    if step.name == ADD_COLS:
+        u_cols, pivots = lists
+        return counts, [u_cols, *memory[1:6], pivots]
+    if step.name == BACK_SUBSTITUTE:
+        _dense, *second_u, pivots = lists
+        return counts, [*second_u, *memory[3:6], pivots]
+    return counts, lists[-7:]
 
 
 # ---- the Rust's side
 
 def matrix_at(step):
     """Where the matrix's five words start among those given."""
-    return 2 if step.name.startswith("reducer_from") else 0
+    return 1 if step.name == DET else 2 if starts_afresh(step) else 0
 
 
 def first_rows(matrix, many):
@@ -94,6 +126,12 @@ def asked(step, keep, taken=None):
     """The line for the Rust; of a call over a matrix, with the rows that were taken."""
     if step.name == "reducer_new":
         return form.write_case("sequence_new", step.given)
+    if step.name == ADD_COLS:
+        return form.write_case("sequence_add_cols", [int(keep), *step.given])
+    if step.name == BACK_SUBSTITUTE:
+        return form.write_case("sequence_back_substitute", [])
+    if step.name == DET:
+        return form.write_case("sequence_det", [int(keep), *step.given[:6]])
     flags = [int(keep), int(step.name.endswith(BACK))]
     if step.name.startswith("reducer_add_row"):
         return form.write_case("sequence_add_row", flags + step.given[:2])
@@ -128,20 +166,53 @@ def accepted(step, words, lists, counts, memory):
     if step.name.startswith("reducer_add_row"):
         answer = int(rest[0]) if first == "accepted" else NO_PIVOT
         return asked(step, True), shown("ok", [answer], counts, memory)
+    if step.name in (ADD_COLS, BACK_SUBSTITUTE):
+        return asked(step, True), shown("ok", [], counts, memory)
+    if step.name == DET and first == "value":
+        return asked(step, True), shown(f"ok {rest[0]}", [], counts, memory)
+    if step.name == DET:
+        return stopped_det(step, int(rest[1])), shown("ok", heads(counts, memory), counts, memory)
     taken = int(rest[1] if first == "stopped" else rest[0])
     word = "none" if first == "dependent" else "ok"
     return asked(step, True, taken), shown(word, lists[1][:taken], counts, memory)
+
+
+def heads(counts, memory):
+    """The answers of the rows that were accepted, in their order."""
+    return [memory[0][start] for start in memory[2][:counts[3]]]
+
+
+def stopped_det(step, taken):
+    """The Rust has no determinant of the rows before a stop; its check has their state."""
+    p, *matrix = step.given[:6]
+    return form.write_case("sequence_check_dependent", [1, 0, p, FULL, *first_rows(matrix, taken)])
 
 
 def unequal(a, b):
     return f"panic assertion `left == right` failed   left: {a}  right: {b}"
 
 
-def refused(step, ncols):
-    """What the Rust's own tests say of a step that is refused; nothing where it has none for it. It
-    asks no reducer where there is none yet."""
-    if step.name == "reducer_new":
+def refused_positions(step, counts, memory):
+    """Positions of which 12 is said. The Rust asks that they do not fall, and stops at one above the
+    column count; one that stands twice it takes."""
+    (positions,) = step.given
+    if positions != sorted(positions):
+        return asked(step, False), FALLING
+    if positions and positions[-1] > counts[2]:
+        return asked(step, False), ABOVE
+    if len(set(positions)) == len(positions):
         return None, None
+    words, lists = reduced.add_cols(arguments(step, counts, memory), set())
+    return asked(step, False), shown("ok", [], *left(step, memory, words, lists))
+
+
+def refused(step, counts, memory):
+    """What the Rust's own tests say of a step that is refused; nothing where it has none for it. It
+    asks no reducer where there is none yet; a determinant asks for none."""
+    if (counts is None and step.name != DET) or step.name in ("reducer_new", BACK_SUBSTITUTE):
+        return None, None
+    if step.name == ADD_COLS:
+        return refused_positions(step, counts, memory)
     if step.name.startswith("reducer_add_row"):
         cols, vals = step.given[:2]
         return (asked(step, False), unequal(len(vals), len(cols))) if len(cols) != len(vals) else (None, None)
@@ -151,8 +222,10 @@ def refused(step, ncols):
     own = 3 if lengths else second.first_bad_row(width, row_ptrs, col_idcs)
     if own:
         return asked(step, False), ERRORS[own]
-    if at == 0 and width != ncols:
-        return asked(step, False), unequal(width, ncols)
+    if at == 0 and width != counts[2]:
+        return asked(step, False), unequal(width, counts[2])
+    if step.name == DET and nrows != width:
+        return asked(step, False), NOT_SQUARE
     return None, None
 
 
@@ -167,8 +240,7 @@ def play(sequence):
         words, lists = rule(args, numbers_of(*args))
         case, answer = form.write_case(step.name, args), form.write_answer(words, lists)
         if words.startswith("refused"):
-            line, expected = refused(step, counts and counts[2])
-            yield Turn(case, answer, line if counts else None, expected if counts else None)
+            yield Turn(case, answer, *refused(step, counts, memory))
             if counts is None:
                 return
             continue
@@ -200,7 +272,10 @@ def smaller_rows(rows):
 
 
 def smaller_steps(step):
-    if step.name == "reducer_new":
+    if step.name in ("reducer_new", BACK_SUBSTITUTE):
+        return
+    if step.name == ADD_COLS:
+        yield from (Step(ADD_COLS, [without(step.given[0], k)]) for k in range(len(step.given[0])))
         return
     if step.name.startswith("reducer_add_row"):
         cols, vals, dense = step.given

@@ -39,6 +39,9 @@ const CALLS: &[(&str, Call)] = &[
     ("sequence_add_matrix", reducer::add_matrix),
     ("sequence_from_matrix", reducer::from_matrix),
     ("sequence_check_dependent", reducer::check_dependent),
+    ("sequence_add_cols", reducer::add_cols),
+    ("sequence_back_substitute", reducer::back_substitute),
+    ("sequence_det", reducer::det),
 ];
 
 const NOTHING_TO_RUN: &str = "-";

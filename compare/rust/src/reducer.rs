@@ -68,12 +68,12 @@ fn shown(word: &str, answers: &Answers, reducer: &Reducer) -> String {
 }
 
 /// What a call came to: its first word, the answers of the rows it took, and the reducer after it.
-type Outcome = Result<(&'static str, Answers, Reducer), String>;
+type Outcome = Result<(String, Answers, Reducer), String>;
 
 fn settle(keep: bool, run: impl FnOnce() -> Outcome) -> String {
     caught(|| match run() {
         Ok((word, answers, reducer)) => {
-            let text = shown(word, &answers, &reducer);
+            let text = shown(&word, &answers, &reducer);
             if keep {
                 KEPT.with(|kept| *kept.borrow_mut() = Some(reducer));
             }
@@ -113,10 +113,10 @@ fn one_by_one(reducer: &mut Reducer, back_subs: bool, matrix: &Matrix, stop_at_n
 }
 
 /// The call's own state must be that of its rows taken one by one.
-fn agreed(word: &'static str, answers: Answers, called: Reducer, stepped: Reducer) -> Outcome {
+fn agreed(answers: Answers, called: Reducer, stepped: Reducer) -> Outcome {
     let none = Vec::new();
     if shown("", &none, &called) == shown("", &none, &stepped) {
-        Ok((word, answers, called))
+        Ok(("ok".into(), answers, called))
     } else {
         Err("the rows one by one leave another state".into())
     }
@@ -128,7 +128,7 @@ pub fn new(words: &mut Words) -> Option<String> {
     let (p, ncols) = (words.number()?, words.number()?);
     let mode = mode(words)?;
     words.end()?;
-    Some(settle(true, || Ok(("ok", Vec::new(), Reducer::new(ncols, Zp { p }, mode)))))
+    Some(settle(true, || Ok(("ok".into(), Vec::new(), Reducer::new(ncols, Zp { p }, mode)))))
 }
 
 pub fn add_row(words: &mut Words) -> Option<String> {
@@ -138,7 +138,7 @@ pub fn add_row(words: &mut Words) -> Option<String> {
     Some(settle(keep, || {
         let mut reducer = kept();
         let answer = add(&mut reducer, back_subs, &values, &cols);
-        Ok(("ok", vec![answer], reducer))
+        Ok(("ok".into(), vec![answer], reducer))
     }))
 }
 
@@ -155,7 +155,7 @@ pub fn add_matrix(words: &mut Words) -> Option<String> {
             called.add_matrix(&matrix);
         }
         let answers = one_by_one(&mut stepped, back_subs, &matrix, false);
-        agreed("ok", answers, called, stepped)
+        agreed(answers, called, stepped)
     }))
 }
 
@@ -179,7 +179,7 @@ pub fn from_matrix(words: &mut Words) -> Option<String> {
         };
         let mut stepped = Reducer::new(matrix.ncols(), field, mode);
         let answers = one_by_one(&mut stepped, back_subs, &matrix, false);
-        agreed("ok", answers, called, stepped)
+        agreed(answers, called, stepped)
     }))
 }
 
@@ -197,8 +197,46 @@ pub fn check_dependent(words: &mut Words) -> Option<String> {
         let mut stepped = Reducer::new(matrix.ncols(), field, mode);
         let answers = one_by_one(&mut stepped, back_subs, &matrix, true);
         match called {
-            Some(called) => agreed("ok", answers, called, stepped),
-            None => Ok(("none", answers, stepped)),
+            Some(called) => agreed(answers, called, stepped),
+            None => Ok(("none".into(), answers, stepped)),
         }
+    }))
+}
+
+/// No answers: no rows are taken.
+pub fn add_cols(words: &mut Words) -> Option<String> {
+    let keep = flag(words)?;
+    let positions: Vec<u32> = words.list()?;
+    words.end()?;
+    Some(settle(keep, || {
+        let mut reducer = kept();
+        reducer.add_cols(&positions);
+        Ok(("ok".into(), Vec::new(), reducer))
+    }))
+}
+
+/// The original has no test of its own here, so it is asked only where the result is kept.
+pub fn back_substitute(words: &mut Words) -> Option<String> {
+    words.end()?;
+    Some(settle(true, || {
+        let mut reducer = kept();
+        reducer.back_substitute();
+        Ok(("ok".into(), Vec::new(), reducer))
+    }))
+}
+
+/// The original gives the value alone. The state is the one of its own rows in Full mode, taken one by one
+/// up to the first that is dependent, as its determinant takes them.
+pub fn det(words: &mut Words) -> Option<String> {
+    let keep = flag(words)?;
+    let field = Zp { p: words.number()? };
+    let matrix = parts(words)?;
+    words.end()?;
+    Some(settle(keep, || {
+        let matrix = matrix.tested(field)?;
+        let value = matrix.det().map_err(|why| why.to_string())?;
+        let mut stepped = Reducer::new(matrix.ncols(), field, LuLMode::Full);
+        one_by_one(&mut stepped, false, &matrix, true);
+        Ok((format!("ok {value}"), Vec::new(), stepped))
     }))
 }

@@ -1,0 +1,2 @@
+pub mod Enters
+pub mod Promises

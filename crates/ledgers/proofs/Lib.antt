@@ -1,0 +1,16 @@
+pub mod Balances
+pub mod Calls
+pub mod Completes
+pub mod Determinants
+pub mod Diagonals
+pub mod Folds
+pub mod Judges
+pub mod Ledgers
+pub mod Lines
+pub mod Notebook
+pub mod Orders
+pub mod Owns
+pub mod Pages
+pub mod Takens
+pub mod Testeds
+pub mod Yes

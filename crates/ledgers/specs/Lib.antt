@@ -1,0 +1,3 @@
+pub mod Means
+pub mod Own
+pub mod Taken
