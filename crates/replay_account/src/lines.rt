@@ -1,0 +1,51 @@
+// The lines of the input, one after the other.
+use answers::ROOM;
+use answers::end;
+use cases::input::no_lines;
+use cases::input::step;
+use cases_account::account_of;
+use cases_account::memory::LINES;
+use cases_account::memory::NUMBERS;
+use cases_account::memory::PLACES;
+use cases_account::memory::POINTERS;
+use cases_account::said;
+
+// Answers every line of standard input, and says how many bytes wait then. Nothing says that the
+// input ends, so the steps are counted down from a number that no run uses up.
+pub fn replay(
+    lines: &mut [u8; LINES],
+    nums: &mut [u32; NUMBERS],
+    wides: &mut [usize; POINTERS],
+    dense: &mut [u32; PLACES],
+    out: &mut [u8; ROOM],
+) -> usize {
+    let mut state = no_lines();
+    let mut fill = 0;
+    let mut left = u64::MAX;
+    while left > 0 {
+        state = step(lines, state);
+        let case = account_of(lines, state.start, state.stop);
+        fill = answer(case, nums, wides, dense, out, fill);
+        if state.done {
+            return fill;
+        }
+        left -= 1;
+    }
+    fill
+}
+
+// Answers the case: nothing where it is empty, `bad` where it is malformed.
+fn answer(
+    case: &[u8],
+    nums: &mut [u32; NUMBERS],
+    wides: &mut [usize; POINTERS],
+    dense: &mut [u32; PLACES],
+    out: &mut [u8; ROOM],
+    fill: usize,
+) -> usize {
+    if case.len() == 0 {
+        return fill;
+    }
+    let said = said(case, nums, wides, dense, out, fill);
+    end(said, out, fill)
+}
