@@ -1,4 +1,4 @@
--- Over any sequence of public calls from a fresh start a row is answered None exactly if it is a combination of the rows accepted before it.
+-- From a fresh start, after rows, inserted columns and back substitutions in any order, a row is answered None exactly if it is a combination of the rows accepted before it.
 -- Assumes nothing.
 use mathlib.Core.Path.{_≡_, refl, sym, ap, subst, _∙_}
 use mathlib.Core.Logic.{_↔_}
@@ -192,6 +192,6 @@ reached-known (row n k r c m past on es clean room) = known-row (reached-known p
 reached-known (columns n k r c m past ps good s rows) = known-columns (reached-known past) ps good s rows
 reached-known (back n k r c m past l dense after made) = known-back (reached-known past) l dense after made
 
--- what None means, whatever was called before
+-- what None means, whatever came before
 pub reached-none : {p n k : ℕ} {r : ℕ → ℕ → ℕ} {c : Counts} {m : Memory} → Reached p n k r c m → (on : Bool) (es : List Entry) → CleanRow p n es → (rowStep on c es m .answer .answer ≡ None) ↔ Combination p n k r (valueOf es)
 reached-none past on es clean = known-none (reached-known past) on es clean

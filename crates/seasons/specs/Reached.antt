@@ -1,4 +1,4 @@
--- A reducer reached from a fresh start by any sequence of public calls, and the rows accepted since.
+-- A reducer reached from a fresh start by rows, inserted columns and back substitutions in any order, and the rows accepted since.
 use mathlib.Core.Path.{_≡_}
 use mathlib.Core.Bool.{Bool, cond}
 use mathlib.Core.List.{List}
@@ -20,8 +20,8 @@ use Rattle.widening.specs.Inserted.{Inserted}
 use Rattle.backing.specs.Back.{reducer, backSubstitute}
 use Rattle.backing.specs.declared.Backed.the-variants.{Made}
 
--- n columns and k rows r accepted since the fresh start, inserted columns as zeros; counts and lists are these. Every call that
--- takes rows is a fold of the step; a refused call, and what a call refuses, changes nothing
+-- n columns and k rows r accepted since the fresh start, inserted columns as zeros; counts and lists are these. A row is taken by
+-- the single step, of which the calls that take rows are folds
 pub data Reached (p : ℕ) : ℕ → ℕ → (ℕ → ℕ → ℕ) → Counts → Memory → Type 0 where
   fresh : (n : ℕ) (mode : Mode) (o : Opening) → newTest p n mode o ≡ Good → (uc uv lc lv : List ℕ) (r : ℕ → ℕ → ℕ)
       → Reached p n 0 r (counts mode p n 0 0 0 0) (memory uc uv (started mode n o .u-ptrs) lc lv (started mode n o .l-ptrs) (started mode n o .pivots))

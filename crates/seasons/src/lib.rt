@@ -1,1 +1,1 @@
-// Laws only: what None means over any sequence of calls.
+// Laws only: what None means after rows, inserted columns and back substitutions in any order.
