@@ -27,7 +27,7 @@ use Rattle.walk.specs.Step.{pivotAt, Taken, step}
 use Rattle.walk.specs.Step as S
 use Rattle.walk.specs.declared.Answer.the-variants.{Accepted}
 use Rattle.steps.specs.Added.{Added}
-use Rattle.steps.specs.History.{answered, grows}
+use Rattle.steps.specs.History.{answered, grows, placed, extended}
 use Rattle.steps.specs.Rows.{valueOf, CleanRow}
 use Rattle.steps.specs.Setting.{withLast, Grown}
 use Rattle.steps.proofs.Answers.{answered-step}
@@ -39,7 +39,7 @@ use Rattle.writing.specs.Puts.{put, more}
 use Rattle.writing.proofs.Writing.{Writing, writing-none, row-fits, writing-more, ptrs-keep}
 use Rattle.keeping.proofs.Grows.{Fits, upright-grown, upright-grows}
 use Rattle.keeping.proofs.Uppers.{Upright}
-use Rattle.reduced.specs.Building.{Built, empty, more as built-more, placed, extended, finished, Finished}
+use Rattle.reduced.specs.Building.{Built, empty, more as built-more, finished, Finished}
 use Rattle.reduced.specs.Order.{pivotColumns, columnDown, rowDown}
 use Rattle.reduced.proofs.Alikes.{Alike, answered-alike}
 use Rattle.reduced.proofs.Builds.{built-finished, built-accepted}

@@ -22,10 +22,10 @@ use Rattle.state.specs.Memory.{Memory, memory, atMost, places}
 use Rattle.state.specs.State.{isRefused, headOf, headless, misplaced, uFault, uLost, uRows, uOf, crooked, patternFault, valuesFault, lFault, stateTest}
 use Rattle.state.specs.declared.Mode.the-variants.{Full, None}
 use Rattle.walk.specs.Step.{pivotAt, isNone, subtract, accept, stopped, at, climb, divided, ended, start, walked, copied, direct, step}
-use Rattle.steps.specs.History.{atOnce, answered}
+use Rattle.steps.specs.History.{atOnce, answered, placed, extended}
 use Rattle.steps.specs.Setting.{withLast}
 use Rattle.stepping.specs.Take.{cleared}
-use Rattle.reduced.specs.Building.{placed, extended, finished}
+use Rattle.reduced.specs.Building.{finished}
 use Rattle.reduced.specs.Order.{pivotColumns}
 use Rattle.backing.specs.Back.{downRow, backRow, backRows, backPivots, backTest, backCounts, backing, backed, backSubstitute}
 use Rattle.backing.specs.declared.Backed.the-variants.{Made}

@@ -3,14 +3,12 @@
 use mathlib.Core.Path.{_≡_, refl, sym, ap, ap₂, _∙_}
 use mathlib.Core.Bool.{Bool, true, false, cond, not}
 use mathlib.Core.List.{List, [], _∷_, _++_, map, map-append, flatten, append-nil}
-use mathlib.Core.Logic.{_⊎_, inl, inr, ⊎-elim}
 use Prim.Native.Nat.{ℕ, zero, suc, _+_, _≤_, _<_}
 use native.Mathlib.Nat.{not-suc-le-zero}
 use native.Mathlib.Decide.{decLt}
 use native.Mathlib.Omega.{arith}
 use lib.Dec.{eqb}
-use lib.ListN.{length, getD, length-append, length-map, List·getD-append}
-use lib.Seq.{getD-at}
+use lib.ListN.{length, getD, length-append, length-map}
 use borrow.Author.Tests.{eq-eqb, ne-eqb, le-ltb, lt-leb}
 use Rattle.lists.specs.Sum.{Σ}
 use Rattle.lists.specs.Table.{table}
@@ -24,6 +22,7 @@ use Rattle.sparse.specs.declared.Tested.the-variants.{Good}
 use Rattle.sparse.specs.declared.inside.Clause.the-variants.{Residue}
 use Rattle.sparse.proofs.Firsts.{refuse-false, all-good, lowest-next, lowest-last}
 use Rattle.sparse.proofs.Vectors.{vector-tests}
+use Rattle.meaning.proofs.Climbing.{each-append, each-one, climbs-none, climbs-wider, climbs-more}
 use Rattle.meaning.proofs.RowColumns.{climbs-good}
 use Rattle.meaning.proofs.RowLists.{flatten-snoc}
 use Rattle.meaning.proofs.Values.{Climbs}
@@ -55,29 +54,6 @@ value-on {k = k} s = ap (λ (es : List Entry). valueOf es k) (s .here) ∙ value
 value-off : {p k : ℕ} {es : List Entry} (j : ℕ) → Single p k es → (k ≡ j → ⊥) → valueOf es j ≡ 0
 value-off {k = k} j s ne = ap (λ (es : List Entry). valueOf es j) (s .here) ∙ value-held (s .what) k j ∙ rw (ne-eqb k j ne)
 
--- an element of a list with one more
-snoc-cases : (xs : List ℕ) (x k : ℕ) → k < length (xs ++ (x ∷ [])) → ((k < length xs) × (getD (xs ++ (x ∷ [])) k 0 ≡ getD xs k 0)) ⊎ ((k ≡ length xs) × (getD (xs ++ (x ∷ [])) k 0 ≡ x))
-snoc-cases xs x k h = go (decLt k (length xs))
-  where
-    go : Dec (k < length xs) → ((k < length xs) × (getD (xs ++ (x ∷ [])) k 0 ≡ getD xs k 0)) ⊎ ((k ≡ length xs) × (getD (xs ++ (x ∷ [])) k 0 ≡ x))
-    go (yes l) = inl (l, List·getD-append xs (x ∷ []) 0 k l)
-    go (no l) = let e : k ≡ length xs = omega (arith, length-append xs (x ∷ [])) in inr (e, getD-at xs x [] 0 k (sym e))
-
--- indices that climb below n, and n
-climbs-snoc : (n : ℕ) (xs : List ℕ) → Climbs n xs → Climbs (suc n) (xs ++ (n ∷ []))
-climbs-snoc n xs c = record { below = low; rises = up }
-  where
-    low : (k : ℕ) → k < length (xs ++ (n ∷ [])) → getD (xs ++ (n ∷ [])) k 0 < suc n
-    low k h = ⊎-elim (λ a. omega (arith, a .1, c .below k (a .0))) (λ a. omega (arith, a .1)) (snoc-cases xs n k h)
-
-    up : (i k : ℕ) → i < k → k < length (xs ++ (n ∷ [])) → getD (xs ++ (n ∷ [])) i 0 < getD (xs ++ (n ∷ [])) k 0
-    up i k l h =
-        let first = snoc-cases xs n i (omega arith) in
-        ⊎-elim
-        (λ a. ⊎-elim (λ b. omega (arith, a .1, b .1, c .rises i k l (a .0))) (λ b. omega (arith, a .0, b .0)) first)
-        (λ a. ⊎-elim (λ b. omega (arith, a .1, b .1, c .below i (b .0))) (λ b. omega (arith, a .0, b .0)) first)
-        (snoc-cases xs n k h)
-
 -- a good vector of length n
 pub record Formed (p n : ℕ) (es : List Entry) : Type 0 where
   pub few : length es ≤ n
@@ -88,13 +64,13 @@ formed-more : (p n : ℕ) (es : List Entry) → Formed p n es → (r : Last) →
 unfolding held colsOf valuesOf
 formed-more p n es f Nothing small = rw (append-nil es) (record {
   few = omega (arith, f .few);
-  climbs = record { below = λ k h. omega (arith, f .climbs .below k h); rises = f .climbs .rises };
+  climbs = climbs-wider (omega arith) (f .climbs);
   small = f .small;
 })
 formed-more p n es f (Value v) small = record {
   few = omega (arith, f .few, length-append es (entry n v ∷ []));
-  climbs = rw (map-append (λ (e : Entry). e .col) es (entry n v ∷ [])) (climbs-snoc n (map (λ (e : Entry). e .col) es) (f .climbs));
-  small = rw (map-append (λ (e : Entry). e .value) es (entry n v ∷ [])) (λ i h. ⊎-elim (λ a. omega (arith, a .1, f .small i (a .0))) (λ a. omega (arith, a .1, small v refl)) (snoc-cases (map (λ (e : Entry). e .value) es) v i h));
+  climbs = rw (map-append (λ (e : Entry). e .col) es (entry n v ∷ [])) (climbs-more (f .climbs) (omega arith) (omega arith));
+  small = rw (map-append (λ (e : Entry). e .value) es (entry n v ∷ [])) (each-append (λ i x. x < p) (map (λ (e : Entry). e .value) es) (v ∷ []) (f .small) (each-one (λ x. x < p) v (small v refl)));
 }
 
 module _ (p : ℕ) (f : ℕ → List Entry) where
@@ -102,7 +78,7 @@ module _ (p : ℕ) (f : ℕ → List Entry) where
   unfolding table flatten colsOf valuesOf
   singles-formed zero each = record {
     few = omega arith;
-    climbs = record { below = λ k h. absurd (not-suc-le-zero h); rises = λ i k l h. absurd (not-suc-le-zero h) };
+    climbs = climbs-none 0;
     small = λ i h. absurd (not-suc-le-zero h);
   }
   singles-formed (suc n) each =

@@ -1,6 +1,7 @@
 pub mod BuiltForm
 pub mod BuiltMatrix
 pub mod CleanRows
+pub mod Climbing
 pub mod Exactly
 pub mod Kept
 pub mod Numbers

@@ -15,28 +15,17 @@ use Rattle.sparse.specs.Rows.{Entry}
 use Rattle.walk.specs.Step.{Upper, pivotAt}
 use Rattle.walk.specs.declared.Answer.{Answer}
 use Rattle.walk.specs.declared.Answer.the-variants.{Accepted, None}
-use Rattle.steps.specs.History.{answered, NoPivots, Next, stays, grows}
-use Rattle.steps.specs.Rows.{valueOf}
+use Rattle.steps.specs.History.{answered, NoPivots, Next, stays, grows, placed, extended}
 use Rattle.steps.specs.Setting.{Inverts}
-use Rattle.steps.proofs.Lasts.{last-there, last-before}
-use Rattle.reduced.specs.Building.{Falling, Built, empty, more, placed, extended, finished, Finished}
+use Rattle.steps.proofs.Histories.{extended-next}
+use Rattle.reduced.specs.Building.{Falling, Built, empty, more, finished, Finished}
 use Rattle.reduced.proofs.Taken.{not-none, at-own, finished-more}
-
--- one row taken, as values
-pub extended-next : (p n k : ℕ) (u : Upper) (es : List Entry) → Next true p n k u es (answered true p n k u es .answer) (extended k u (answered true p n k u es))
-unfolding extended
-extended-next p n k u es = go (answered true p n k u es .answer) refl
-  where
-    go : (a : Answer) → answered true p n k u es .answer ≡ a → Next true p n k u es a (placed k u (answered true p n k u es .u) a)
-    go None e = unfold placed in stays e
-    go (Accepted g) e = unfold placed in
-        grows g _ e (record { kept = λ i l j b. ap (λ (r : ℕ → ℕ). r j) (last-before k (valueOf (answered true p n k u es .u)) (u .value) i l); added = λ j b. ap (λ (r : ℕ → ℕ). r j) (last-there k (valueOf (answered true p n k u es .u)) (u .value)); placed = refl })
 
 -- the values of back substitution are built so
 pub finished-built : (p n : ℕ) → n ≤ 1024 → (rows : ℕ → List Entry) (k : ℕ) → Built p n rows k (finished p n rows k)
 unfolding finished pivotAt
 finished-built p n wide rows zero = empty (finished p n rows 0) (record { wide = wide; long = omega (arith, length-table n (λ c. mark)); marks = λ c l. getD-table n (λ c. mark) c 0 l })
-finished-built p n wide rows (suc k) = more k (finished p n rows k) (finished-built p n wide rows k) (answered true p n k (finished p n rows k) (rows k) .answer) (finished p n rows (suc k)) (extended-next p n k (finished p n rows k) (rows k))
+finished-built p n wide rows (suc k) = more k (finished p n rows k) (finished-built p n wide rows k) (answered true p n k (finished p n rows k) (rows k) .answer) (finished p n rows (suc k)) (extended-next true p n k (finished p n rows k) (rows k))
 
 -- and keep the table's length
 pub finished-long : (p n : ℕ) (rows : ℕ → List Entry) (k : ℕ) → length (finished p n rows k .pivots) ≡ n
@@ -72,4 +61,4 @@ module _ {p n m : ℕ} {rows : ℕ → List Entry} {h : ℕ → ℕ} (inverts : 
 
   -- the next row is accepted at its own head
   pub built-accepted : {k : ℕ} {u : Upper} → k < m → Built p n rows k u → answered true p n k u (rows k) .answer ≡ Accepted (h k)
-  built-accepted {k} {u} low past = next-finished k low u (built-finished (omega arith) past) (extended-next p n k u (rows k)) .0
+  built-accepted {k} {u} low past = next-finished k low u (built-finished (omega arith) past) (extended-next true p n k u (rows k)) .0

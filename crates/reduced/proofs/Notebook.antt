@@ -13,9 +13,9 @@ use Rattle.sparse.specs.Pivots.{mark}
 use Rattle.sparse.specs.Put.{colsOf, valuesOf}
 use Rattle.sparse.specs.Rows.{Entry, entry}
 use Rattle.walk.specs.Step.{pivotAt, isNone, subtract, accept, stopped, at, climb, divided, ended, start, walked, copied, direct, step}
-use Rattle.steps.specs.History.{atOnce, answered}
+use Rattle.steps.specs.History.{atOnce, answered, placed, extended}
 use Rattle.steps.specs.Setting.{withLast}
-use Rattle.reduced.specs.Building.{placed, extended, finished}
+use Rattle.reduced.specs.Building.{finished}
 use Rattle.reduced.specs.Order.{pivotColumns, rowDown}
 
 -- N4's U, (1,2,0), (0,0,1), (0,1,5) with pivots 0, 2, 1, from the highest pivot column down

@@ -15,7 +15,8 @@ use Rattle.steps.specs.History.{answered, Next, stays, grows}
 use Rattle.steps.specs.Rows.{valueOf, CleanRow}
 use Rattle.steps.specs.Setting.{Inverts}
 use Rattle.reduced.specs.Building.{Falling, Built, Finished}
-use Rattle.reduced.proofs.Builds.{extended-next, built-finished}
+use Rattle.steps.proofs.Histories.{extended-next}
+use Rattle.reduced.proofs.Builds.{built-finished}
 use Rattle.reduced.proofs.Distincts.{apart-distinct}
 use Rattle.reduced.proofs.Fits.{clear-few, sum-most}
 use Rattle.reduced.proofs.Taken.{clear-all, not-none, new-row, finished-more}
@@ -43,4 +44,4 @@ module _ {p n m : ℕ} {rows : ℕ → List Entry} {h : ℕ → ℕ} (falling : 
         finished-few (finished-more inverts falling k low u done e grown) k (omega arith) (answered true p n k u (rows k) .u) (new-row inverts falling k low u done e grown) (λ j b. sym (grown .added j b))
 
     pub built-few : {k : ℕ} {u : Upper} → k < m → Built p n rows k u → length (answered true p n k u (rows k) .u) ≤ n - m + 1
-    built-few {k} {u} low past = next-few k low u (built-finished inverts falling (omega arith) past) (extended-next p n k u (rows k))
+    built-few {k} {u} low past = next-few k low u (built-finished inverts falling (omega arith) past) (extended-next true p n k u (rows k))

@@ -3,16 +3,14 @@ use mathlib.Core.Path.{_≡_}
 use Prim.Native.Nat.{ℕ, zero, suc, _<_}
 use mathlib.Core.Bool.{true}
 use mathlib.Core.List.{List}
-use lib.ListN.{set}
 use Rattle.lists.specs.Table.{table}
 use Rattle.sparse.specs.Pivots.{mark}
 use Rattle.sparse.specs.Rows.{Entry}
-use Rattle.walk.specs.Step.{Upper, Taken}
+use Rattle.walk.specs.Step.{Upper}
 use Rattle.walk.specs.declared.Answer.{Answer}
-use Rattle.walk.specs.declared.Answer.the-variants.{Accepted, None}
-use Rattle.steps.specs.History.{answered, NoPivots, Next}
+use Rattle.steps.specs.History.{answered, NoPivots, Next, extended}
 use Rattle.steps.specs.Rows.{valueOf, CleanRow}
-use Rattle.steps.specs.Setting.{Tabled, withLast}
+use Rattle.steps.specs.Setting.{Tabled}
 use Rattle.reduced.specs.Reduced.{Reduced, SameSpan}
 
 -- m clean rows, row i with 1 at column h i and 0 before it; each head is lower than those before it
@@ -27,15 +25,6 @@ pub record Falling (p n m : ℕ) (rows : ℕ → List Entry) (h : ℕ → ℕ) :
 pub data Built (p n : ℕ) (rows : ℕ → List Entry) : ℕ → Upper → Type 0 where
   empty : (u : Upper) → NoPivots n u → Built p n rows 0 u
   more : (k : ℕ) (u : Upper) → Built p n rows k u → (a : Answer) (v : Upper) → Next true p n k u (rows k) a v → Built p n rows (suc k) v
-
--- U, which has k rows, with a new row where it was accepted
-unfoldable pub placed : ℕ → Upper → List Entry → Answer → Upper
-placed k u new None = u
-placed k u new (Accepted g) = record { value = withLast k (valueOf new) (u .value); pivots = set (u .pivots) g k }
-
--- U after one row more
-unfoldable pub extended : ℕ → Upper → Taken → Upper
-extended k u t = placed k u (t .u) (t .answer)
 
 -- U after the first k rows, as values
 unfoldable pub finished : ℕ → ℕ → (ℕ → List Entry) → ℕ → Upper

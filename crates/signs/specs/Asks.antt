@@ -6,7 +6,7 @@ use Rattle.sparse.specs.Matrix.{row}
 use Rattle.signs.specs.Value.{lastOf}
 
 -- a place of a short table
-pub record Counts (xs : List ℕ) (j : ℕ) : Type 0 where
+pub record PlaceOf (xs : List ℕ) (j : ℕ) : Type 0 where
   pub few : length xs ≤ 1024
   pub within : j < length xs
 

@@ -2,7 +2,7 @@
 ghost use mathlib.Core.Path.{_≡_};
 ghost use Prim.Native.Nat.{_≤_};
 ghost use lib.ListN.{length};
-ghost use Rattle.signs.specs.Asks.{Counts};
+ghost use Rattle.signs.specs.Asks.{PlaceOf};
 ghost use Rattle.signs.specs.Value;
 
 // How many pairs of places have the greater number first.
@@ -21,7 +21,7 @@ pub fn inversions(table: &[u32]) -> usize
 
 // How many numbers before a place are greater than the one there.
 fn inverted(table: &[u32], place: usize) -> usize
-    requires { ⌜ Counts (now table) place ⌝ }
+    requires { ⌜ PlaceOf (now table) place ⌝ }
     ensures { λ r. ⌜ r ≡ Value.inverted (now (table .entry)) place ⌝ }
 {
     let mut count = 0;

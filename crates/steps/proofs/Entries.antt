@@ -37,30 +37,7 @@ map-at f [] i h = absurd (not-suc-le-zero h)
 map-at f (e ∷ l) zero h = refl
 map-at f (e ∷ l) (suc i) h = map-at f l i (omega arith)
 
--- columns that climb
-pub climbs-none : (n : ℕ) → Climbs n []
-climbs-none n = record { below = λ k h. absurd (not-suc-le-zero h); rises = λ i k l h. absurd (not-suc-le-zero h) }
-
-pub climbs-wider : {n m : ℕ} {cs : List ℕ} → n ≤ m → Climbs n cs → Climbs m cs
-climbs-wider h c = record { below = λ k l. omega (arith, c .below k l); rises = c .rises }
-
-pub climbs-more : {n m c : ℕ} {cs : List ℕ} → Climbs n cs → n ≤ c → c < m → Climbs m (cs ++ (c ∷ []))
-climbs-more {n} {m} {c} {cs} climbs h b = record { below = λ k l. low k l (decLt k (length cs)); rises = λ i k l q. up i k l q (decLt k (length cs)) }
-  where
-    last : (k : ℕ) → k < length (cs ++ (c ∷ [])) → (k < length cs → ⊥) → getD (cs ++ (c ∷ [])) k 0 ≡ c
-    last k l no-less = getD-at cs c [] 0 k (omega (arith, length-append cs (c ∷ [])))
-
-    low : (k : ℕ) → k < length (cs ++ (c ∷ [])) → Dec (k < length cs) → getD (cs ++ (c ∷ [])) k 0 < m
-    low k l (yes q) = rw (List·getD-append cs (c ∷ []) 0 k q) (omega (arith, climbs .below k q))
-    low k l (no q) = rw (last k l q) b
-
-    up : (i k : ℕ) → i < k → k < length (cs ++ (c ∷ [])) → Dec (k < length cs) → getD (cs ++ (c ∷ [])) i 0 < getD (cs ++ (c ∷ [])) k 0
-    up i k l q (yes d) = rw (List·getD-append cs (c ∷ []) 0 k d, List·getD-append cs (c ∷ []) 0 i (omega arith)) (climbs .rises i k l d)
-    up i k l q (no d) =
-        let s : i < length cs = omega (arith, length-append cs (c ∷ [])) in
-        rw (last k q d, List·getD-append cs (c ∷ []) 0 i s) (omega (arith, climbs .below i s))
-
--- at most n of them
+-- at most n columns climb
 pub climbs-few : {n : ℕ} {cs : List ℕ} → Climbs n cs → length cs ≤ n
 climbs-few {n} {cs} climbs = distinct-most (length cs) n (λ k. getD cs k 0) (record { same = λ i k l q e. go i k l q e (decLt i k) (decLt k i) }) (climbs .below)
   where

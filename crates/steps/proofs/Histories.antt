@@ -8,7 +8,7 @@ use Prim.Native.Nat.{ℕ, zero, suc, _+_, _<_}
 use native.Mathlib.Nat.{not-suc-le-zero}
 use native.Mathlib.Numerals.{add-one}
 use native.Mathlib.Omega.{arith}
-use lib.ListN.{length, set, length-append, List·getD-append}
+use lib.ListN.{length, length-append, List·getD-append}
 use lib.Seq.{getD-at}
 use Rattle.lists.specs.Find.{keep}
 use Rattle.lists.specs.Table.{table}
@@ -18,7 +18,7 @@ use Rattle.sparse.specs.Rows.{Entry}
 use Rattle.walk.specs.Step.{Upper, isNone, Taken, taken, step}
 use Rattle.walk.specs.declared.Answer.{Answer}
 use Rattle.walk.specs.declared.Answer.the-variants.{Accepted, None}
-use Rattle.steps.specs.History.{answered, Told, told, accepted, valuesIn, NoPivots, Next, stays, grows, History, fresh, more}
+use Rattle.steps.specs.History.{answered, placed, extended, Told, told, accepted, valuesIn, NoPivots, Next, stays, grows, History, fresh, more}
 use Rattle.steps.specs.Rows.{valueOf, CleanRow}
 use Rattle.steps.specs.Setting.{Inverts, Echelon, withLast, Grown}
 use Rattle.steps.proofs.Answers.{answered-none, answered-step}
@@ -140,24 +140,22 @@ module _ (p n : ℕ) (inverts : Inverts p) where
     pub history-none : (on : Bool) (es : List Entry) → CleanRow p n es → (answered on p n (length (accepted ts)) u es .answer ≡ None) ↔ Combination p n (length (accepted ts)) (valuesIn (accepted ts)) (valueOf es)
     history-none = held-none (held-all past)
 
--- every row can be taken, and so can any rows in turn
-next-some : (on : Bool) (p n k : ℕ) (u : Upper) (es : List Entry) → (a : Answer) × (v : Upper) × Next on p n k u es a v
-next-some on p n k u es = go (answered on p n k u es .answer) refl
+-- one row taken, as values
+pub extended-next : (on : Bool) (p n k : ℕ) (u : Upper) (es : List Entry) → Next on p n k u es (answered on p n k u es .answer) (extended k u (answered on p n k u es))
+unfolding extended
+extended-next on p n k u es = go (answered on p n k u es .answer) refl
   where
-    go : (a : Answer) → answered on p n k u es .answer ≡ a → (a : Answer) × (v : Upper) × Next on p n k u es a v
-    go None e = (None, u, stays e)
-    go (Accepted g) e = (Accepted g, v, grows g v e (record { kept = λ i l j b. ap (λ (r : ℕ → ℕ). r j) (last-before k new (u .value) i l); added = λ j b. ap (λ (r : ℕ → ℕ). r j) (last-there k new (u .value)); placed = refl }))
-      where
-        new : ℕ → ℕ
-        new = valueOf (answered on p n k u es .u)
+    go : (a : Answer) → answered on p n k u es .answer ≡ a → Next on p n k u es a (placed k u (answered on p n k u es .u) a)
+    go None e = unfold placed in stays e
+    go (Accepted g) e = unfold placed in
+        grows g _ e (record { kept = λ i l j b. ap (λ (r : ℕ → ℕ). r j) (last-before k (valueOf (answered on p n k u es .u)) (u .value) i l); added = λ j b. ap (λ (r : ℕ → ℕ). r j) (last-there k (valueOf (answered on p n k u es .u)) (u .value)); placed = refl })
 
-        v : Upper
-        v = record { value = withLast k new (u .value); pivots = set (u .pivots) g k }
-
+-- so any rows can be taken in turn
 pub history-some : (p n : ℕ) (u : Upper) → NoPivots n u → (on : ℕ → Bool) (rows : ℕ → List Entry) → ((i : ℕ) → CleanRow p n (rows i)) → (m : ℕ) → (ts : List Told) × (v : Upper) × History p n ts v × (map (λ t. t .row) ts ≡ table m rows)
 unfolding table
 history-some p n u f on rows clean zero = ([], u, fresh u f, refl)
 history-some p n u f on rows clean (suc m) =
     let s = history-some p n u f on rows clean m in
-    let t = next-some (on m) p n (length (accepted (s .0))) (s .1) (rows m) in
-    (s .0 ++ (told (rows m) (t .0) ∷ []), t .1, more (s .0) (s .1) (s .2) (on m) (rows m) (clean m) (t .0) (t .1) (t .2), map-append (λ (t : Told). t .row) (s .0) (told (rows m) (t .0) ∷ []) ∙ ap (λ (l : List (List Entry)). l ++ (rows m ∷ [])) (s .3))
+    let k : ℕ = length (accepted (s .0)) in
+    let t : Taken = answered (on m) p n k (s .1) (rows m) in
+    (s .0 ++ (told (rows m) (t .answer) ∷ []), extended k (s .1) t, more (s .0) (s .1) (s .2) (on m) (rows m) (clean m) (t .answer) (extended k (s .1) t) (extended-next (on m) p n k (s .1) (rows m)), map-append (λ (t : Told). t .row) (s .0) (told (rows m) (t .answer) ∷ []) ∙ ap (λ (l : List (List Entry)). l ++ (rows m ∷ [])) (s .3))

@@ -9,6 +9,7 @@ use native.Mathlib.Decide.{decLt}
 use native.Mathlib.Omega.{arith}
 use lib.ListN.{length, getD, length-map}
 use Rattle.lists.proofs.Pigeons.{Distinct, distinct-most}
+use Rattle.meaning.proofs.Climbing.{climbs-none, climbs-wider, climbs-more}
 use Rattle.meaning.proofs.Values.{Climbs}
 use Rattle.sparse.specs.Rows.{Entry, entry}
 use Rattle.walk.specs.Step.{Upper, pivotAt, Way, way, subtract, accept, climb}
@@ -16,7 +17,7 @@ use Rattle.walk.specs.declared.Answer.the-variants.{None}
 use Rattle.steps.specs.Rows.{entryAt, LRow}
 use Rattle.steps.specs.Setting.{Echelon}
 use Rattle.steps.proofs.Cases.{Cases, at-cases}
-use Rattle.steps.proofs.Entries.{each-none, each-more, map-at, climbs-none, climbs-wider, climbs-more}
+use Rattle.steps.proofs.Entries.{each-none, each-more, map-at}
 use Rattle.steps.proofs.Sums.{walk-sums}
 
 module _ {p n k : ℕ} {h : ℕ → ℕ} {l : List Entry} (row : LRow p n k h l) where

@@ -17,11 +17,12 @@ use Rattle.lists.specs.Table.{table}
 use Rattle.lists.proofs.Find.{told, any-some, any-false}
 use Rattle.lists.proofs.Gathers.{gather-hit, gather-miss, keep-table}
 use Rattle.meaning.proofs.RowLists.{entries-of}
+use Rattle.meaning.proofs.Climbing.{climbs-none, climbs-wider, climbs-more}
 use Rattle.meaning.proofs.Values.{Climbs, value-there, value-elsewhere, value-first, Clean, clean-unique}
 use Rattle.sparse.specs.Put.{colsOf, valuesOf}
 use Rattle.sparse.specs.Rows.{Entry, entry, entries}
 use Rattle.steps.specs.Rows.{valueOf, entryAt, Each, CleanRow}
-use Rattle.steps.proofs.Entries.{each-none, each-more, map-at, climbs-none, climbs-wider, climbs-more, value-none, value-append}
+use Rattle.steps.proofs.Entries.{each-none, each-more, map-at, value-none, value-append}
 
 -- its values x at n columns, those that are 0 left out
 abbrev pub withoutZeros : ℕ → (ℕ → ℕ) → List Entry

@@ -4,7 +4,7 @@ use Prim.Native.Nat.{ℕ, _≤_, _<_}
 use mathlib.Core.Bool.{Bool, not, _||_, cond}
 use mathlib.Core.List.{List, [], _∷_, _++_, map}
 use lib.Dec.{eqb}
-use lib.ListN.{length, getD}
+use lib.ListN.{length, getD, set}
 use Rattle.lists.specs.Find.{keep}
 use Rattle.sparse.specs.Pivots.{mark}
 use Rattle.sparse.specs.Rows.{Entry}
@@ -12,7 +12,7 @@ use Rattle.walk.specs.Step.{Upper, pivotAt, isNone, Taken, taken, step}
 use Rattle.walk.specs.declared.Answer.{Answer}
 use Rattle.walk.specs.declared.Answer.the-variants.{Accepted, None}
 use Rattle.steps.specs.Rows.{valueOf, CleanRow}
-use Rattle.steps.specs.Setting.{Grown}
+use Rattle.steps.specs.Setting.{Grown, withLast}
 
 -- where step 1 applies: an empty row, or rank equal to the column count
 unfoldable pub atOnce : ℕ → ℕ → List Entry → Bool
@@ -48,6 +48,15 @@ pub record NoPivots (n : ℕ) (u : Upper) : Type 0 where
 pub data Next (on : Bool) (p n k : ℕ) (u : Upper) (es : List Entry) : Answer → Upper → Type 0 where
   stays : answered on p n k u es .answer ≡ None → Next on p n k u es None u
   grows : (g : ℕ) (v : Upper) → answered on p n k u es .answer ≡ Accepted g → Grown n k g u (answered on p n k u es .u) v → Next on p n k u es (Accepted g) v
+
+-- U, which has k rows, with a new row where it was accepted
+unfoldable pub placed : ℕ → Upper → List Entry → Answer → Upper
+placed k u new None = u
+placed k u new (Accepted g) = record { value = withLast k (valueOf new) (u .value); pivots = set (u .pivots) g k }
+
+-- U after one row more
+unfoldable pub extended : ℕ → Upper → Taken → Upper
+extended k u t = placed k u (t .u) (t .answer)
 
 -- U after presented rows, each taken by either walk
 pub data History (p n : ℕ) : List Told → Upper → Type 0 where
