@@ -7,27 +7,32 @@ use Prim.Native.Nat.{ℕ}
 use native.Mathlib.Omega.{arith}
 use lib.ListN.{length}
 use Rattle.sparse.specs.Rows.{compressed}
+use Rattle.state.specs.Fresh.{counts}
 use Rattle.state.specs.Memory.{Memory}
 use Rattle.state.specs.State.{uFault}
 use Rattle.state.specs.declared.Counts.{Counts}
 use Rattle.state.specs.declared.Mode.the-variants.{Full}
 use Rattle.steps.specs.History.{atOnce, Told}
 use Rattle.accounts.specs.Account.{Account, uWhole, lRow, isAccount}
+use Rattle.strides.specs.Strides.{Begun, Strides, still, stride}
 use Rattle.ledgers.specs.Own.{accountOf}
-use Rattle.ledgers.specs.Taken.{Took, fresh, more}
+use Rattle.ledgers.specs.Taken.{Took}
 use Rattle.ledgers.proofs.Balances.{Balanced, ledger-balanced, balanced-account}
 use Rattle.ledgers.proofs.Judges.{booksOf}
 use Rattle.ledgers.proofs.Ledgers.{Ledger, empty, ledger-same}
 use Rattle.ledgers.proofs.Owns.{own-many, own-tells, own-rank, own-sound, own-rows, own-alike}
 use Rattle.ledgers.proofs.Pages.{booksIn, ledger-more}
-use Rattle.ledgers.proofs.Takens.{Stood, took-stood}
+use Rattle.ledgers.proofs.Takens.{Stood, strides-stood, took-stood}
 
 -- the rows taken have a ledger
+strides-ledger : {p n : ℕ} {from : Memory} → Begun Full p n from → {ts : List Told} {c : Counts} {m : Memory} → Strides p n (counts Full p n 0 0 0 0) from ts c m → Ledger p n (booksIn m) ts (c .rank) (c .«l_rows»)
+strides-ledger start still = empty
+strides-ledger start (stride ts c m before on es row room) =
+    let k = strides-stood start before .kept in
+    rw (← k .modulus, ← k .ncols) (ledger-more on c m (k .stands) (k .mode) es (rw (k .modulus, k .ncols) row) ts (rw (k .modulus, k .ncols) (strides-ledger start before)) room)
+
 pub took-ledger : {p n : ℕ} {ts : List Told} {c : Counts} {m : Memory} → Took Full p n ts c m → Ledger p n (booksIn m) ts (c .rank) (c .«l_rows»)
-took-ledger (fresh m good) = empty
-took-ledger {p} {n} (more ts c m before on es row room) =
-    let k = took-stood before .kept in
-    rw (← k .modulus, ← k .ncols) (ledger-more on c m (k .stands) (k .mode) es (rw (k .modulus, k .ncols) row) ts (rw (k .modulus, k .ncols) (took-ledger before)) room)
+took-ledger took = strides-ledger (took .start) (took .strides)
 
 module _ {p n : ℕ} {ts : List Told} {c : Counts} {m : Memory} (took : Took Full p n ts c m) where
   abbrev a : Account

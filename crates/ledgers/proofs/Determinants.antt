@@ -33,11 +33,11 @@ use Rattle.determinant.specs.declared.Determined.the-variants.{Value, Refused}
 use Rattle.determinant.specs.declared.Valued.{Valued}
 use Rattle.determinant.proofs.Dets.{det-anew}
 use Rattle.signs.proofs.Sums.{product-small}
+use Rattle.strides.proofs.Anews.{anew-ends, runOf, valued-run, det-begun}
+use Rattle.strides.proofs.Folds.{apart, Ends}
 use Rattle.ledgers.specs.Means.{Means}
-use Rattle.ledgers.specs.Taken.{Took, Appended}
-use Rattle.ledgers.proofs.Calls.{anew-ends}
+use Rattle.ledgers.specs.Taken.{Took}
 use Rattle.ledgers.proofs.Diagonals.{all-product}
-use Rattle.ledgers.proofs.Folds.{apart, Ends}
 use Rattle.ledgers.proofs.Takens.{took-prime}
 
 -- a residue but 0 stays one with its sign
@@ -64,13 +64,12 @@ module _ (p : ℕ) (a : Matrix) (o : Lists) where
   fold = takeRows false true (rowsOf a) (outcome (Taken (run 0 c)) (written (restarted Full (a .ncols) (o .memory)) []))
 
   module _ (good : detTest p a (o .dense) (o .memory .u-ptrs) (o .memory .l-ptrs) (o .memory .pivots) ≡ Good) where
-    ends : Ends false true (run 0 c) Full p (a .ncols) [] [] (rowsOf a) fold
-    ends = anew-ends false true (run 0 c) (det-anew p a o good)
+    ends : Ends false true (run 0 c) p (a .ncols) c (restarted Full (a .ncols) (o .memory)) [] (rowsOf a) fold
+    ends = anew-ends (det-anew p a o good) false true (run 0 c)
 
     -- the rows that it took, whatever ended it
-    pub det-took : Appended Full p (a .ncols) [] (rowsOf a) [] (runIn (run 0 c) (takeAnew false true p Full a w .answer)) (written (det p a o .memory .memory) (takeAnew false true p Full a w .memory .answers))
-    unfolding det unless determined takeAnew takeMatrix
-    det-took = rw good (ends .appended)
+    fold-took : Took Full p (a .ncols) (ends .appended .new) (runIn (run 0 c) (fold .answer) .counts) (fold .memory .memory)
+    fold-took = record { from = restarted Full (a .ncols) (o .memory); start = det-begun p a o good; strides = ends .appended .strides }
 
     -- the value, where all rows were taken
     abbrev valueHere : Run → ℕ
@@ -80,7 +79,7 @@ module _ (p : ℕ) (a : Matrix) (o : Lists) where
     taken-some : (r : Run) → fold .answer ≡ Taken r → valueHere r ≡ 0 → ⊥
     unfolding runIn valueOf
     taken-some r e =
-        let t : Took Full p (a .ncols) (ends .appended .new) (r .counts) (fold .memory .memory) = subst (λ (x : Reduced). Took Full p (a .ncols) (ends .appended .new) (runIn (run 0 c) x .counts) (fold .memory .memory)) e (ends .appended .took) in
+        let t : Took Full p (a .ncols) (ends .appended .new) (r .counts) (fold .memory .memory) = subst (λ (x : Reduced). Took Full p (a .ncols) (ends .appended .new) (runIn (run 0 c) x .counts) (fold .memory .memory)) e fold-took in
         signed-some p _ _ (product-small p (fold .memory .memory .l-ptrs) (fold .memory .memory .l-vals) (r .counts .«l_rows») (took-prime t .least)) (all-product t (ends .accepts refl (λ q z. apart (sym e ∙ z))))
 
     abbrev valuedAs : Reduced → Determined
@@ -98,12 +97,9 @@ module _ (p : ℕ) (a : Matrix) (o : Lists) where
     valued-zero v (Short s) e q = let z : _≡_ {A = ℕ} 0 1 = cc in absurd (omega arith)
     valued-zero v (Unfolded why) e q = let z : _≡_ {A = ℕ} 0 1 = cc in absurd (omega arith)
 
-    valued-run : (v : Valued) (x : Reduced) → valuedAs x ≡ Value v → runIn (run 0 c) x ≡ v .run
-    unfolding valued runIn
-    valued-run v (Taken r) q = let same : record { value = valueHere r; run = r } ≡ v = cc in ap (λ (y : Valued). y .run) same
-    valued-run v (Dependent r) q = let same : record { value = 0; run = r } ≡ v = cc in ap (λ (y : Valued). y .run) same
-    valued-run v (Short s) q = let z : _≡_ {A = ℕ} 0 1 = cc in absurd (omega arith)
-    valued-run v (Unfolded why) q = let z : _≡_ {A = ℕ} 0 1 = cc in absurd (omega arith)
+    run-here : (v : Valued) → valuedAs (fold .answer) ≡ Value v → runIn (run 0 c) (fold .answer) ≡ v .run
+    unfolding runOf
+    run-here v q = valued-run (run 0 c) p (a .ncols) (fold .answer) _ _ _ ∙ ap (runOf (run 0 c)) q
 
     -- it ended at a None exactly if not all rows that it took were accepted
     fold-none : ((r : Run) × (fold .answer ≡ Dependent r)) ↔ (length (accepted (ends .appended .new)) < length (ends .appended .new))
@@ -120,8 +116,8 @@ module _ (p : ℕ) (a : Matrix) (o : Lists) where
         let z = valued-zero v (fold .answer) refl q in
         record {
           ts = ends .appended .new;
-          took = subst (λ (r : Run). Took Full p (a .ncols) (ends .appended .new) (r .counts) (fold .memory .memory)) (valued-run v (fold .answer) q) (ends .appended .took);
-          many = ends .appended .many ∙ ap (λ (r : Run). r .taken) (valued-run v (fold .answer) q);
+          took = subst (λ (r : Run). Took Full p (a .ncols) (ends .appended .new) (r .counts) (fold .memory .memory)) (run-here v q) fold-took;
+          many = ends .appended .many ∙ ap (λ (r : Run). r .taken) (run-here v q);
           first = ends .appended .first;
           zero = ((λ e. fold-none .0 (z .0 e)), (λ l. z .1 (fold-none .1 l)));
         }

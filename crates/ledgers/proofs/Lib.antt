@@ -3,7 +3,6 @@ pub mod Calls
 pub mod Completes
 pub mod Determinants
 pub mod Diagonals
-pub mod Folds
 pub mod Judges
 pub mod Ledgers
 pub mod Lines

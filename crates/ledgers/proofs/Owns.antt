@@ -28,8 +28,8 @@ use Rattle.keeping.proofs.Settings.{rowsIn, stands-upright}
 use Rattle.keeping.proofs.Uppers.{Upright}
 use Rattle.telling.specs.Answers.{number}
 use Rattle.accounts.specs.Account.{Account, uWhole, lCount, lRow, answerAt}
+use Rattle.strides.specs.Strides.{rowsOfTold}
 use Rattle.ledgers.specs.Own.{accountOf}
-use Rattle.ledgers.specs.Taken.{rowsOfTold}
 use Rattle.ledgers.proofs.Balances.{Tells}
 use Rattle.ledgers.proofs.Judges.{booksOf}
 use Rattle.ledgers.proofs.Ledgers.{Alike}

@@ -6,7 +6,7 @@ use Prim.Native.Nat.{ℕ}
 use Rattle.lists.proofs.Ontos.{onto-nil}
 use Rattle.field.specs.Prime.{Prime}
 use Rattle.field.proofs.Primes.{modulus-iff}
-use Rattle.state.specs.Fresh.{counts, opening}
+use Rattle.state.specs.Fresh.{counts}
 use Rattle.state.specs.Memory.{Memory}
 use Rattle.state.specs.declared.Counts.{Counts}
 use Rattle.state.specs.declared.Mode.{Mode}
@@ -14,13 +14,14 @@ use Rattle.steps.specs.History.{Told}
 use Rattle.stepping.specs.Asks.{Stands}
 use Rattle.stepping.specs.Take.{lists}
 use Rattle.stepping.proofs.Walks.{stands-modulus}
-use Rattle.keeping.proofs.Pasts.{empty-past, fresh-stands}
+use Rattle.keeping.proofs.Pasts.{empty-past}
 use Rattle.telling.specs.Runs.{run}
 use Rattle.running.specs.Rows.{written}
-use Rattle.batches.specs.Batch.{restarted}
 use Rattle.nights.specs.Meant.{nothing}
 use Rattle.nights.proofs.Rows.{Kept, kept-more}
-use Rattle.ledgers.specs.Taken.{Took, fresh, more}
+use Rattle.strides.specs.Strides.{Begun, Strides, still, stride}
+use Rattle.strides.proofs.Runs.{begun-stands}
+use Rattle.ledgers.specs.Taken.{Took}
 
 -- whatever answers were written, and however many rows the last call counts
 pub record Stood (mode : Mode) (p n : ℕ) (ts : List Told) (c : Counts) (m : Memory) : Type 0 where
@@ -28,16 +29,15 @@ pub record Stood (mode : Mode) (p n : ℕ) (ts : List Told) (c : Counts) (m : Me
   pub answers : List ℕ
   pub kept : Kept (counts mode p n 0 0 0 0) [] ts (run counted c) (written m answers)
 
-pub took-stood : {mode : Mode} {p n : ℕ} {ts : List Told} {c : Counts} {m : Memory} → Took mode p n ts c m → Stood mode p n ts c m
-unfolding restarted
-took-stood {mode} {p} {n} (fresh m good) =
-    let s : Stands (counts mode p n 0 0 0 0) (lists (restarted mode n m) []) = fresh-stands p n mode (opening (m .u-ptrs) (m .l-ptrs) (m .pivots)) good (m .u-cols) (m .u-vals) (m .l-cols) (m .l-vals) [] in
+pub strides-stood : {mode : Mode} {p n : ℕ} {from : Memory} → Begun mode p n from → {ts : List Told} {c : Counts} {m : Memory} → Strides p n (counts mode p n 0 0 0 0) from ts c m → Stood mode p n ts c m
+strides-stood {mode} {p} {n} {from} start still =
+    let s : Stands (counts mode p n 0 0 0 0) (lists from []) = begun-stands start in
     record {
       counted = 0;
       answers = [];
       kept = record {
         stands = s;
-        past = empty-past (counts mode p n 0 0 0 0) (lists (restarted mode n m) []) s refl;
+        past = empty-past (counts mode p n 0 0 0 0) (lists from []) s refl;
         meant = nothing;
         mode = refl;
         modulus = refl;
@@ -46,9 +46,10 @@ took-stood {mode} {p} {n} (fresh m good) =
         numbers = λ h. sym (onto-nil []);
       };
     }
-took-stood (more ts c m before on es row room) =
-    let s = took-stood before in
-    record { counted = _; answers = _; kept = kept-more on (s .kept) es row room }
+strides-stood start (stride ts c m before on es row room) = record { counted = _; answers = _; kept = kept-more on (strides-stood start before .kept) es row room }
+
+pub took-stood : {mode : Mode} {p n : ℕ} {ts : List Told} {c : Counts} {m : Memory} → Took mode p n ts c m → Stood mode p n ts c m
+took-stood took = strides-stood (took .start) (took .strides)
 
 -- the modulus is a prime
 pub took-prime : {mode : Mode} {p n : ℕ} {ts : List Told} {c : Counts} {m : Memory} → Took mode p n ts c m → Prime p

@@ -2,15 +2,13 @@
 -- Assumes nothing.
 use mathlib.Core.Path.{_≡_, refl, sym, ap, subst, _∙_}
 use mathlib.Core.Bool.{false}
-use mathlib.Core.List.{List, [], _∷_, _++_, map, flatten}
+use mathlib.Core.List.{List, [], map, flatten}
 use Prim.Native.Nat.{ℕ, _+_, _-_, _≤_, _<_}
-use native.Mathlib.Nat.{not-suc-le-zero}
-use native.Mathlib.Decide.{decLt}
 use native.Mathlib.Omega.{arith}
 use borrow.Author.Tests.{eq-eqb, ne-eqb, le-ltb}
 use lib.Dec.{ltb}
-use lib.ListN.{length, getD, take, length-map, length-append, List·getD-append, List·getD-map}
-use lib.Seq.{getD-at, getD-take, length-take-le}
+use lib.ListN.{length, getD, take, length-map, List·getD-map}
+use lib.Seq.{getD-take, length-take-le}
 use Rattle.lists.proofs.Find.{any-none}
 use Rattle.sparse.specs.Matrix.{row}
 use Rattle.sparse.specs.Put.{colsOf, valuesOf}
@@ -26,35 +24,23 @@ use Rattle.meaning.proofs.RowColumns.{climbs-good}
 use Rattle.state.specs.Memory.{Memory}
 use Rattle.state.specs.State.{crooked}
 use Rattle.state.specs.declared.Counts.{Counts}
-use Rattle.state.specs.declared.Mode.{Mode}
 use Rattle.state.specs.declared.Mode.the-variants.{Full}
 use Rattle.walk.specs.declared.Answer.the-variants.{None}
 use Rattle.steps.specs.History.{Told, told}
 use Rattle.steps.specs.Rows.{CleanRow}
 use Rattle.writing.proofs.WellFormed.{rows-well-formed}
 use Rattle.writing.proofs.Written.{row-of-rows, row-parts}
-use Rattle.stepping.specs.Take.{rowStep}
 use Rattle.keeping.proofs.Storables.{storables-pass, each-storables}
 use Rattle.telling.specs.Answers.{number}
 use Rattle.accounts.specs.Account.{Account}
 use Rattle.accounts.specs.Tests.{broken, answersTest, memoryTest, slicesTest, accountTest}
+use Rattle.strides.specs.Strides.{rowsOfTold}
+use Rattle.strides.proofs.Runs.{strides-clean}
 use Rattle.ledgers.specs.Own.{accountOf}
-use Rattle.ledgers.specs.Taken.{Took, fresh, more, rowsOfTold}
+use Rattle.ledgers.specs.Taken.{Took}
 use Rattle.ledgers.proofs.Lines.{l-level, l-long}
 use Rattle.ledgers.proofs.Owns.{places-held, u-upright, l-wide, l-placed}
 use Rattle.ledgers.proofs.Takens.{Stood, took-stood}
-
--- each row taken was clean
-took-clean : {mode : Mode} {p n : ℕ} {ts : List Told} {c : Counts} {m : Memory} → Took mode p n ts c m → (i : ℕ) → i < length ts → CleanRow p n (getD ts i (told [] None) .row)
-took-clean (fresh m good) i h = absurd (not-suc-le-zero h)
-took-clean {p = p} {n = n} (more ts c m before on es row room) i h = go (decLt i (length ts)) (λ b. took-clean before i b)
-  where
-    t : Told
-    t = told es (rowStep on c es m .answer .answer)
-
-    go : Dec (i < length ts) → (i < length ts → CleanRow p n (getD ts i (told [] None) .row)) → CleanRow p n (getD (ts ++ (t ∷ [])) i (told [] None) .row)
-    go (yes b) each = rw (List·getD-append ts (t ∷ []) (told [] None) i b) (each b)
-    go (no b) each = let here : length ts ≡ i = omega (arith, length-append ts (t ∷ [])) in rw (getD-at ts t [] (told [] None) i here) row
 
 -- clean rows within the limits make a clean matrix
 module _ (p n : ℕ) (rs : List (List Entry)) (modulus : modulusTest p ≡ Good) (size : sizeTest 65536 (length rs) n (length (flatten rs)) ≡ Good) (each : (i : ℕ) → i < length rs → CleanRow p n (getD rs i [])) where
@@ -156,7 +142,7 @@ module _ {p n : ℕ} {ts : List Told} {c : Counts} {m : Memory} (took : Took Ful
     answers = rw (eq-eqb (length (map (λ (t : Told). number (t .answer)) ts)) (length (rowsOfTold ts)) (length-map ts (λ (t : Told). number (t .answer)) ∙ sym rows-many))
 
     row-clean : (i : ℕ) → i < length (rowsOfTold ts) → CleanRow p n (getD (rowsOfTold ts) i [])
-    row-clean i h = subst (CleanRow p n) (sym (List·getD-map (λ (t : Told). t .row) ts i (told [] None))) (took-clean took i (omega (arith, rows-many)))
+    row-clean i h = subst (CleanRow p n) (sym (List·getD-map (λ (t : Told). t .row) ts i (told [] None))) (strides-clean (took .strides) i (omega (arith, rows-many)))
 
     rows : clean 65536 (a .modulus) (a .rows) ≡ Good
     unfolding accountOf

@@ -13,8 +13,9 @@ use Rattle.steps.specs.History.{Told}
 use Rattle.stepping.specs.Take.{cleared}
 use Rattle.checking.specs.Check.{judged, checkAccount}
 use Rattle.checking.specs.declared.Verdict.the-variants.{Yes}
+use Rattle.strides.specs.Strides.{rowsOfTold}
 use Rattle.ledgers.specs.Own.{accountOf}
-use Rattle.ledgers.specs.Taken.{Took, rowsOfTold}
+use Rattle.ledgers.specs.Taken.{Took}
 use Rattle.ledgers.proofs.Completes.{complete}
 use Rattle.ledgers.proofs.Testeds.{complete-tested}
 

@@ -9,7 +9,8 @@ use Rattle.state.specs.Memory.{Memory}
 use Rattle.state.specs.declared.Mode.the-variants.{Full}
 use Rattle.steps.specs.History.{Told, accepted}
 use Rattle.determinant.specs.declared.Valued.{Valued}
-use Rattle.ledgers.specs.Taken.{Took, rowsOfTold}
+use Rattle.strides.specs.Strides.{rowsOfTold}
+use Rattle.ledgers.specs.Taken.{Took}
 
 -- the rows ts were taken, the first of those offered, and the value is 0 exactly if not all of them were accepted
 pub record Means (p n : ℕ) (offered : List (List Entry)) (v : Valued) (m : Memory) : Type 0 where

@@ -7,7 +7,7 @@ use Rattle.state.specs.Memory.{Memory, memory}
 use Rattle.state.specs.declared.Counts.{Counts}
 use Rattle.steps.specs.History.{Told}
 use Rattle.accounts.specs.Account.{Account, account}
-use Rattle.ledgers.specs.Taken.{rowsOfTold, numbersOf}
+use Rattle.strides.specs.Strides.{rowsOfTold, numbersOf}
 
 -- the filled parts of U and L, and the pivot table
 abbrev pub filled : Counts → Memory → Memory

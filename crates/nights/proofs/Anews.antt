@@ -10,9 +10,12 @@ use Rattle.lists.proofs.Ontos.{onto-nil}
 use Rattle.sparse.specs.Lent.{outcome}
 use Rattle.sparse.specs.Matrix.{Matrix}
 use Rattle.sparse.specs.Rows.{rowsOf, rowAt}
+use Rattle.sparse.specs.Tests.{clean}
+use Rattle.sparse.specs.declared.Tested.the-variants.{Good}
 use Rattle.state.specs.Fresh.{counts}
 use Rattle.state.specs.declared.Counts.{Counts}
 use Rattle.state.specs.declared.Mode.{Mode}
+use Rattle.state.specs.declared.Mode.the-variants.{Full}
 use Rattle.steps.specs.Rows.{CleanRow}
 use Rattle.stepping.specs.Asks.{Stands}
 use Rattle.stepping.specs.Take.{lists}
@@ -20,7 +23,6 @@ use Rattle.stepping.proofs.MatrixRows.{row-here, row-offered}
 use Rattle.keeping.proofs.Pasts.{empty-past}
 use Rattle.telling.specs.Runs.{run}
 use Rattle.telling.specs.declared.Reduced.the-variants.{Taken}
-use Rattle.running.specs.Asks.{Fits}
 use Rattle.running.specs.Rows.{written, takeRows, Night, night}
 use Rattle.running.proofs.Folds.{rows-many}
 use Rattle.batches.specs.Asks.{Begins, Anew}
@@ -30,11 +32,12 @@ use Rattle.nights.specs.Meant.{nothing}
 use Rattle.nights.proofs.Folds.{runIn, Ends, rows-end}
 use Rattle.nights.proofs.Rows.{Kept}
 
-rows-clean : (c : Counts) (a : Matrix) → Fits c a → (i : ℕ) → i < length (rowsOf a) → CleanRow (c .modulus) (c .ncols) (getD (rowsOf a) i [])
+-- the rows of a clean matrix are clean
+pub rows-clean : (p : ℕ) (a : Matrix) → clean 65536 p a ≡ Good → (i : ℕ) → i < length (rowsOf a) → CleanRow p (a .ncols) (getD (rowsOf a) i [])
 unfolding rowAt
-rows-clean c a f i h =
+rows-clean p a e i h =
     let l : i < a .nrows = omega (arith, rows-many a) in
-    subst (CleanRow (c .modulus) (c .ncols)) (row-here (c .modulus) a (f .rows) i l) (row-offered (c .modulus) a (f .rows) c refl (f .columns) i l .clean)
+    subst (CleanRow p (a .ncols)) (row-here p a e i l) (row-offered p a e (counts Full p (a .ncols) 0 0 0 0) refl refl i l .clean)
 
 module _ (on check : Bool) {p : ℕ} {mode : Mode} {a : Matrix} {w : Night} (anew : Anew p mode a w) where
   abbrev c : Counts
@@ -43,8 +46,9 @@ module _ (on check : Bool) {p : ℕ} {mode : Mode} {a : Matrix} {w : Night} (ane
   begins : Begins c a (night (restarted mode (a .ncols) (w .memory)) (w .answers) (w .dense))
   begins = anew-begins anew
 
-  start : Kept c (w .answers) [] (run 0 c) (written (restarted mode (a .ncols) (w .memory)) (w .answers))
-  start =
+  -- so it stands before the first row
+  pub anew-start : Kept c (w .answers) [] (run 0 c) (written (restarted mode (a .ncols) (w .memory)) (w .answers))
+  anew-start =
       let s : Stands c (lists (restarted mode (a .ncols) (w .memory)) []) = record { opened = begins .stands .opened; state = begins .stands .state } in
       record {
         stands = s;
@@ -59,4 +63,4 @@ module _ (on check : Bool) {p : ℕ} {mode : Mode} {a : Matrix} {w : Night} (ane
 
   pub anew-ends : Ends (run 0 c) c (w .answers) (rowsOf a) (takeRows on check (rowsOf a) (outcome (Taken (run 0 c)) (written (restarted mode (a .ncols) (w .memory)) (w .answers))))
   unfolding runIn
-  anew-ends = rows-end on check (run 0 c) c (w .answers) (rowsOf a) (rows-clean c a (begins .fits)) (Taken (run 0 c)) (written (restarted mode (a .ncols) (w .memory)) (w .answers)) [] start
+  anew-ends = rows-end on check (run 0 c) c (w .answers) (rowsOf a) (rows-clean p a (anew .rows)) (Taken (run 0 c)) (written (restarted mode (a .ncols) (w .memory)) (w .answers)) [] anew-start

@@ -53,8 +53,18 @@ ends-few {all = all} e = go (decLt (length all) (length (e .ts)))
     go (yes h) = let whole : take (length (e .ts)) all ≡ all = take-all (length (e .ts)) all (omega arith) in omega (arith, same, ap length whole)
     go (no h) = omega arith
 
-front : (ts : List Told) (rs : List (List Entry)) → rowsOfTold ts ≡ take (length ts) (rowsOfTold ts ++ rs)
+-- the rows told are the first of those rows and others
+pub front : (ts : List Told) (rs : List (List Entry)) → rowsOfTold ts ≡ take (length ts) (rowsOfTold ts ++ rs)
 front ts rs = sym (ap (λ (k : ℕ). take k (rowsOfTold ts ++ rs)) (sym (length-map ts _)) ∙ take-append-seam (rowsOfTold ts) rs)
+
+-- where a row ends a call, it was counted
+pub run-ended : (check : Bool) (d : Run) (a : Answer) (r : Run) → runIn d (ended check a r) ≡ r
+unfolding ended runIn
+run-ended check d a r = go (check && isNone a)
+  where
+    go : (e : Bool) → runIn d (cond e (Dependent r) (Taken r)) ≡ r
+    go true = refl
+    go false = refl
 
 module _ (on check : Bool) (d : Run) (c : Counts) (b : List ℕ) where
   -- what is to be shown of the rows rs
@@ -63,14 +73,6 @@ module _ (on check : Bool) (d : Run) (c : Counts) (b : List ℕ) where
 
   over-end : (rs later : List (List Entry)) (x : Reduced) (w : Written) (ts : List Told) → isOver x ≡ true → Kept c b ts (runIn d x) w → Ends d c b (rowsOfTold ts ++ later) (takeRows on check rs (outcome x w))
   over-end rs later x w ts e k = rw (rows-over on check rs (outcome x w) e) (record { ts = ts; kept = k; first = front ts later })
-
-  run-ended : (a : Answer) (r : Run) → runIn d (ended check a r) ≡ r
-  unfolding ended runIn
-  run-ended a r = go (check && isNone a)
-    where
-      go : (e : Bool) → runIn d (cond e (Dependent r) (Taken r)) ≡ r
-      go true = refl
-      go false = refl
 
   next-end : (es : List Entry) (rs : List (List Entry)) → CleanRow (c .modulus) (c .ncols) es → Goal rs → (r : Run) (w : Written) (ts : List Told) → Kept c b ts r w → Ends d c b (rowsOfTold ts ++ (es ∷ rs)) (takeRows on check rs (nextRow on check es r w))
   unfolding nextRow unless counted runIn isOver
@@ -87,7 +89,7 @@ module _ (on check : Bool) (d : Run) (c : Counts) (b : List ℕ) where
       go Good e =
           subst (λ (all : List (List Entry)). Ends d c b all (takeRows on check rs after)) (ap (λ (xs : List (List Entry)). xs ++ rs) (map-append _ ts _) ∙ append-snoc (rowsOfTold ts) es rs)
           (rest (after .answer) (after .memory) more
-          (subst (λ (y : Run). Kept c b more y (after .memory)) (sym (run-ended (rowStep on (r .counts) es (w .memory) .answer .answer) (run (r .taken + 1) (rowStep on (r .counts) es (w .memory) .answer .counts)))) (kept-more on k es row e)))
+          (subst (λ (y : Run). Kept c b more y (after .memory)) (sym (run-ended check d (rowStep on (r .counts) es (w .memory) .answer .answer) (run (r .taken + 1) (rowStep on (r .counts) es (w .memory) .answer .counts)))) (kept-more on k es row e)))
 
   pub rows-end : (rs : List (List Entry)) → ((i : ℕ) → i < length rs → CleanRow (c .modulus) (c .ncols) (getD rs i [])) → Goal rs
   unfolding takeRows thenRow isOver runIn

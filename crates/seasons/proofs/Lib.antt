@@ -1,2 +1,4 @@
+pub mod Calls
+pub mod Follows
 pub mod Means
 pub mod Widths

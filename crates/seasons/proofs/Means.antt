@@ -3,12 +3,15 @@
 use mathlib.Core.Path.{_≡_, refl, sym, ap, subst, _∙_}
 use mathlib.Core.Logic.{_↔_}
 use mathlib.Core.Bool.{Bool, cond}
-use mathlib.Core.List.{List, []}
-use Prim.Native.Nat.{ℕ, suc, _+_, _<_}
+use mathlib.Core.List.{List, [], _∷_, _++_}
+use Prim.Native.Nat.{ℕ, _+_, _<_}
 use native.Mathlib.Nat.{add-zero, not-suc-le-zero}
+use native.Mathlib.Decide.{decLt}
 use native.Mathlib.Numerals.{add-one}
 use native.Mathlib.Omega.{arith}
-use lib.ListN.{length, length-map}
+use lib.ListN.{length, getD, take, length-append, length-map, List·getD-append}
+use lib.Seq.{getD-at, take-append-le, take-append-seam}
+use Rattle.lists.specs.Find.{keep}
 use Rattle.linear.specs.Combination.{Combination}
 use Rattle.linear.proofs.Span.{span-row, span-trans}
 use Rattle.sparse.specs.Lent.{Lent}
@@ -20,8 +23,8 @@ use Rattle.state.specs.Memory.{Memory}
 use Rattle.state.specs.declared.Counts.{Counts}
 use Rattle.walk.specs.Step.{Upper, isNone}
 use Rattle.walk.specs.declared.Answer.{Answer}
-use Rattle.walk.specs.declared.Answer.the-variants.{Accepted, None}
-use Rattle.steps.specs.History.{answered, Next, stays, grows}
+use Rattle.walk.specs.declared.Answer.the-variants.{None}
+use Rattle.steps.specs.History.{answered, Told, told, accepted, Next, stays, grows}
 use Rattle.steps.specs.Rows.{valueOf, CleanRow}
 use Rattle.steps.specs.Setting.{Inverts, Echelon, withLast}
 use Rattle.steps.proofs.Histories.{Held, held-same, held-grows, held-none}
@@ -31,7 +34,7 @@ use Rattle.stepping.specs.Take.{Lists, lists, roomAsked, rowStep, stepRow}
 use Rattle.stepping.proofs.Walks.{heads, stands-inverts, stands-echelon}
 use Rattle.keeping.proofs.Keeps.{step-stands}
 use Rattle.keeping.proofs.Nexts.{step-next, step-answer}
-use Rattle.keeping.proofs.Pasts.{Counted, step-counted, fresh-stands}
+use Rattle.keeping.proofs.Pasts.{Counted, step-counted}
 use Rattle.keeping.proofs.Settings.{rowsIn}
 use Rattle.widening.specs.AddCols.{addColsTest, widerCounts, widened}
 use Rattle.widening.specs.Inserted.{Inserted}
@@ -41,7 +44,10 @@ use Rattle.reduced.specs.Reduced.{SameSpan}
 use Rattle.backing.specs.Back.{backCounts, reducer, backSubstitute}
 use Rattle.backing.specs.declared.Backed.the-variants.{Made}
 use Rattle.backing.proofs.Results.{back-counted, back-stands, back-rows-span}
-use Rattle.seasons.specs.Reached.{Reached, fresh, row, columns, back}
+use Rattle.strides.specs.Strides.{Strides, still, stride}
+use Rattle.strides.proofs.Runs.{begun-stands}
+use Rattle.seasons.specs.Reached.{followed, Reached, fresh, rows, columns, back}
+use Rattle.seasons.proofs.Follows.{followed-first, taken-many, taken-last}
 use Rattle.seasons.proofs.Widths.{span-new}
 
 -- a state whose U has as many rows as were accepted, and spans what they do
@@ -171,6 +177,19 @@ module _ {p n k : ℕ} {r : ℕ → ℕ → ℕ} {c : Counts} {m : Memory} (w : 
       };
     }
 
+-- the same rows by another count and another list
+known-same : {p n k j : ℕ} {r q : ℕ → ℕ → ℕ} {c : Counts} {m : Memory} → k ≡ j → ((i : ℕ) → i < k → q i ≡ r i) → Known p n k r c m → Known p n j q c m
+known-same {p} {n} {q = q} {c = c} {m = m} e same w =
+    subst (λ (i : ℕ). Known p n i q c m) e (record { stands = w .stands; modulus = w .modulus; ncols = w .ncols; rank = w .rank; held = held-same same (w .held) })
+
+-- a run of single steps
+known-rows : {p n k : ℕ} {r : ℕ → ℕ → ℕ} {c d : Counts} {m l : Memory} {ts : List Told} → Known p n k r c m → Strides p n c m ts d l → Known p n (k + length (accepted ts)) (followed k r (accepted ts)) d l
+unfolding accepted keep
+known-rows {k = k} {r = r} w still = known-same (sym (add-zero k)) (followed-first k r []) w
+known-rows {k = k} {r = r} w (stride ts d l past on es clean room) =
+    let a : Answer = rowStep on d es l .answer .answer in
+    known-same (taken-many k r ts es a) (taken-last k r ts es a) (known-row (known-rows w past) on es clean room)
+
 -- a fresh start
 known-fresh : {p n : ℕ} {r : ℕ → ℕ → ℕ} (c : Counts) (m : Memory) → Stands c (lists m []) → c .modulus ≡ p → c .ncols ≡ n → c .rank ≡ 0 → Known p n 0 r c m
 known-fresh c m s q e z = record {
@@ -187,11 +206,29 @@ known-fresh c m s q e z = record {
 }
 
 pub reached-known : {p n k : ℕ} {r : ℕ → ℕ → ℕ} {c : Counts} {m : Memory} → Reached p n k r c m → Known p n k r c m
-reached-known (fresh n mode o good uc uv lc lv r) = known-fresh _ _ (fresh-stands _ n mode o good uc uv lc lv []) refl refl refl
-reached-known (row n k r c m past on es clean room) = known-row (reached-known past) on es clean room
-reached-known (columns n k r c m past ps good s rows) = known-columns (reached-known past) ps good s rows
+reached-known (fresh n mode m start r) = known-fresh _ m (begun-stands start) refl refl refl
+reached-known (rows n k r c m past ts d l strides) = known-rows (reached-known past) strides
+reached-known (columns n k r c m past ps good s each) = known-columns (reached-known past) ps good s each
 reached-known (back n k r c m past l dense after made) = known-back (reached-known past) l dense after made
 
 -- what None means, whatever came before
 pub reached-none : {p n k : ℕ} {r : ℕ → ℕ → ℕ} {c : Counts} {m : Memory} → Reached p n k r c m → (on : Bool) (es : List Entry) → CleanRow p n es → (rowStep on c es m .answer .answer ≡ None) ↔ Combination p n k r (valueOf es)
 reached-none past on es clean = known-none (reached-known past) on es clean
+
+-- of each row of a run: a combination of the rows before the run, and of those accepted in it before
+pub reached-each : {p n k : ℕ} {r : ℕ → ℕ → ℕ} {c d : Counts} {m l : Memory} {ts : List Told} → Reached p n k r c m → Strides p n c m ts d l → (i : ℕ) → i < length ts
+    → (getD ts i (told [] None) .answer ≡ None) ↔ Combination p n (k + length (accepted (take i ts))) (followed k r (accepted (take i ts))) (valueOf (getD ts i (told [] None) .row))
+reached-each past still i h = absurd (not-suc-le-zero h)
+reached-each {p} {n} {k} {r} past (stride ts d l before on es clean room) i h = go (decLt i (length ts)) (λ b. reached-each past before i b)
+  where
+    t : Told
+    t = told es (rowStep on d es l .answer .answer)
+
+    Means : List Told → Told → Type 0
+    Means us u = (u .answer ≡ None) ↔ Combination p n (k + length (accepted us)) (followed k r (accepted us)) (valueOf (u .row))
+
+    go : Dec (i < length ts) → (i < length ts → Means (take i ts) (getD ts i (told [] None))) → Means (take i (ts ++ (t ∷ []))) (getD (ts ++ (t ∷ [])) i (told [] None))
+    go (yes b) each = rw (List·getD-append ts (t ∷ []) (told [] None) i b, take-append-le i ts (t ∷ []) (omega arith)) (each b)
+    go (no b) each =
+        let here : length ts ≡ i = omega (arith, length-append ts (t ∷ [])) in
+        rw (getD-at ts t [] (told [] None) i here, ← here, take-append-seam ts (t ∷ [])) (reached-none (rows n k r _ _ past ts d l before) on es clean)

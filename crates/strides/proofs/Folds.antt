@@ -1,8 +1,8 @@
--- A fold of rows after rows taken: those that it takes are the first, and follow them; a check for dependence that goes on has accepted them all.
+-- A fold of rows is a run of single steps over the first of them; a check for dependence that goes on has accepted them all.
 -- Assumes nothing.
 use mathlib.Core.Path.{_≡_, refl, sym, ap, subst, _∙_}
 use mathlib.Core.Bool.{Bool, true, false, not, _&&_, cond}
-use mathlib.Core.List.{List, [], _∷_, _++_, append-nil, append-assoc, map-append}
+use mathlib.Core.List.{List, [], _∷_, _++_, map-append}
 use Prim.Native.Nat.{ℕ, suc, _+_, _≤_, _<_}
 use native.Mathlib.Omega.{arith}
 use lib.ListN.{length, getD, take, set, length-append, length-map}
@@ -16,7 +16,6 @@ use Rattle.sparse.specs.declared.Tested.{Tested}
 use Rattle.sparse.specs.declared.Tested.the-variants.{Good, Refused as Unfit}
 use Rattle.state.specs.Memory.{Memory}
 use Rattle.state.specs.declared.Counts.{Counts}
-use Rattle.state.specs.declared.Mode.{Mode}
 use Rattle.walk.specs.Step.{isNone}
 use Rattle.walk.specs.declared.Answer.{Answer}
 use Rattle.walk.specs.declared.Answer.the-variants.{Accepted, None}
@@ -31,8 +30,8 @@ use Rattle.telling.specs.declared.Reduced.the-variants.{Taken, Dependent, Stopp
 use Rattle.telling.specs.declared.Run.{Run}
 use Rattle.running.specs.Rows.{Written, written, counted, nextRow, thenRow, takeRows}
 use Rattle.running.proofs.Folds.{isOver, rows-over}
-use Rattle.nights.proofs.Folds.{runIn}
-use Rattle.ledgers.specs.Taken.{Took, more, rowsOfTold, numbersOf, Appended}
+use Rattle.nights.proofs.Folds.{runIn, front, run-ended}
+use Rattle.strides.specs.Strides.{Strides, still, stride, rowsOfTold, numbersOf, Appended}
 
 -- no more are accepted than are taken
 accepted-few : (ts : List Told) → length (accepted ts) ≤ length ts
@@ -56,13 +55,10 @@ accepted-goes false g s = refl
 pub apart : {r q : Run} → Taken r ≡ Dependent q → ⊥
 apart e = let z : _≡_ {A = ℕ} 0 1 = cc in omega arith
 
-front : (ts : List Told) (rs : List (List Entry)) → rowsOfTold ts ≡ take (length ts) (rowsOfTold ts ++ rs)
-front ts rs = sym (ap (λ (k : ℕ). take k (rowsOfTold ts ++ rs)) (sym (length-map ts _)) ∙ take-append-seam (rowsOfTold ts) rs)
-
-module _ (on check : Bool) (d : Run) (mode : Mode) (p n : ℕ) (past : List Told) (b : List ℕ) where
+module _ (on check : Bool) (d : Run) (p n : ℕ) (c : Counts) (m : Memory) (b : List ℕ) where
   -- so it stands within the call, after the rows ts of it
   record Held (ts : List Told) (x : Reduced) (w : Written) : Type 0 where
-    took : Took mode p n (past ++ ts) (runIn d x .counts) (w .memory)
+    strides : Strides p n c m ts (runIn d x .counts) (w .memory)
     many : length ts ≡ runIn d x .taken
     numbers : length ts ≤ length b → w .answers ≡ numbersOf ts onto b
     all : check ≡ true → ((r : Run) → x ≡ Dependent r → ⊥) → length (accepted ts) ≡ length ts
@@ -70,7 +66,7 @@ module _ (on check : Bool) (d : Run) (mode : Mode) (p n : ℕ) (past : List Told
 
   -- the end of a fold over all these rows
   pub record Ends (all : List (List Entry)) (o : Outcome Reduced Written) : Type 0 where
-    pub appended : Appended mode p n past all b (runIn d (o .answer)) (o .memory)
+    pub appended : Appended p n c m all b (runIn d (o .answer)) (o .memory)
     pub accepts : check ≡ true → ((r : Run) → o .answer ≡ Dependent r → ⊥) → length (accepted (appended .new)) ≡ length (appended .new)
     pub meets : (r : Run) → o .answer ≡ Dependent r → length (accepted (appended .new)) < length (appended .new)
 
@@ -78,18 +74,10 @@ module _ (on check : Bool) (d : Run) (mode : Mode) (p n : ℕ) (past : List Told
   Goal rs = (x : Reduced) (w : Written) (ts : List Told) → Held ts x w → Ends (rowsOfTold ts ++ rs) (takeRows on check rs (outcome x w))
 
   held-ends : (ts : List Told) (rs : List (List Entry)) (x : Reduced) (w : Written) → Held ts x w → Ends (rowsOfTold ts ++ rs) (outcome x w)
-  held-ends ts rs x w h = record { appended = record { new = ts; took = h .took; many = h .many; first = front ts rs; numbers = h .numbers }; accepts = h .all; meets = h .some }
+  held-ends ts rs x w h = record { appended = record { new = ts; strides = h .strides; many = h .many; first = front ts rs; numbers = h .numbers }; accepts = h .all; meets = h .some }
 
   over-end : (rs later : List (List Entry)) (x : Reduced) (w : Written) (ts : List Told) → isOver x ≡ true → Held ts x w → Ends (rowsOfTold ts ++ later) (takeRows on check rs (outcome x w))
   over-end rs later x w ts e h = rw (rows-over on check rs (outcome x w) e) (held-ends ts later x w h)
-
-  run-ended : (a : Answer) (r : Run) → runIn d (ended check a r) ≡ r
-  unfolding ended runIn
-  run-ended a r = go (check && isNone a)
-    where
-      go : (e : Bool) → runIn d (cond e (Dependent r) (Taken r)) ≡ r
-      go true = refl
-      go false = refl
 
   -- one row more
   module _ (es : List Entry) (row : CleanRow p n es) (r : Run) (w : Written) (ts : List Told) (h : Held ts (Taken r) w) (room : roomAsked (r .counts) es (w .memory) ≡ Good) where
@@ -102,9 +90,9 @@ module _ (on check : Bool) (d : Run) (mode : Mode) (p n : ℕ) (past : List Told
     abbrev after : Outcome Reduced Written
     after = counted check (r .taken) (rowStep on (r .counts) es (w .memory)) (w .answers)
 
-    next-took : Took mode p n (past ++ (ts ++ (t ∷ []))) (rowStep on (r .counts) es (w .memory) .answer .counts) (rowStep on (r .counts) es (w .memory) .memory)
+    next-strides : Strides p n c m (ts ++ (t ∷ [])) (rowStep on (r .counts) es (w .memory) .answer .counts) (rowStep on (r .counts) es (w .memory) .memory)
     unfolding runIn
-    next-took = rw (← append-assoc past ts (t ∷ [])) (more (past ++ ts) (r .counts) (w .memory) (h .took) on es row room)
+    next-strides = stride ts (r .counts) (w .memory) (h .strides) on es row room
 
     next-numbers : length (ts ++ (t ∷ [])) ≤ length b → set (w .answers) (r .taken) (number a) ≡ numbersOf (ts ++ (t ∷ [])) onto b
     unfolding runIn
@@ -116,8 +104,8 @@ module _ (on check : Bool) (d : Run) (mode : Mode) (p n : ℕ) (past : List Told
 
     next-all : (v : Answer) → check ≡ true → (s : Run) → ((q : Run) → ended check v s ≡ Dependent q → ⊥) → length (accepted ts) ≡ length ts → length (accepted (ts ++ (told es v ∷ []))) ≡ length (ts ++ (told es v ∷ []))
     unfolding ended isNone
-    next-all None c s goes l = absurd (goes s (rw c))
-    next-all (Accepted g) c s goes l = ap length (accepted-more ts es g) ∙ length-append (accepted ts) (es ∷ []) ∙ ap (λ (k : ℕ). k + 1) l ∙ sym (length-append ts (told es (Accepted g) ∷ []))
+    next-all None e s goes l = absurd (goes s (rw e))
+    next-all (Accepted g) e s goes l = ap length (accepted-more ts es g) ∙ length-append (accepted ts) (es ∷ []) ∙ ap (λ (k : ℕ). k + 1) l ∙ sym (length-append ts (told es (Accepted g) ∷ []))
 
     next-some : (v : Answer) (s q : Run) → ended check v s ≡ Dependent q → length (accepted (ts ++ (told es v ∷ []))) < length (ts ++ (told es v ∷ []))
     next-some None s q e = omega (arith, ap length (accepted-same ts es), accepted-few ts, length-append ts (told es None ∷ []))
@@ -128,10 +116,10 @@ module _ (on check : Bool) (d : Run) (mode : Mode) (p n : ℕ) (past : List Told
     next-held =
         let s : Run = run (r .taken + 1) (rowStep on (r .counts) es (w .memory) .answer .counts) in
         record {
-          took = rw (run-ended a s) next-took;
-          many = rw (run-ended a s) (length-append ts (t ∷ []) ∙ ap (λ (k : ℕ). k + 1) (h .many));
+          strides = rw (run-ended check d a s) next-strides;
+          many = rw (run-ended check d a s) (length-append ts (t ∷ []) ∙ ap (λ (k : ℕ). k + 1) (h .many));
           numbers = next-numbers;
-          all = λ c goes. next-all a c s goes (h .all c (λ q. apart));
+          all = λ e goes. next-all a e s goes (h .all e (λ q. apart));
           some = λ q e. next-some a s q e;
         }
 
@@ -146,7 +134,7 @@ module _ (on check : Bool) (d : Run) (mode : Mode) (p n : ℕ) (past : List Told
       more-rows = ts ++ (told es (rowStep on (r .counts) es (w .memory) .answer .answer) ∷ [])
 
       go : (f : Tested) → roomAsked (r .counts) es (w .memory) ≡ f → Ends (rowsOfTold ts ++ (es ∷ rs)) (takeRows on check rs (unless (λ why. Stopped (stop why r)) f w after))
-      go (Unfit why) e = over-end rs (es ∷ rs) (Stopped (stop why r)) w ts refl (record { took = h .took; many = h .many; numbers = h .numbers; all = λ c goes. h .all c (λ q. apart); some = λ q z. let y : _≡_ {A = ℕ} 0 1 = cc in absurd (omega arith) })
+      go (Unfit why) e = over-end rs (es ∷ rs) (Stopped (stop why r)) w ts refl (record { strides = h .strides; many = h .many; numbers = h .numbers; all = λ e goes. h .all e (λ q. apart); some = λ q z. let y : _≡_ {A = ℕ} 0 1 = cc in absurd (omega arith) })
       go Good e =
           subst (λ (all : List (List Entry)). Ends all (takeRows on check rs after)) (ap (λ (xs : List (List Entry)). xs ++ rs) (map-append _ ts _) ∙ append-snoc (rowsOfTold ts) es rs)
           (rest (after .answer) (after .memory) more-rows (next-held es row r w ts h e))
@@ -159,10 +147,10 @@ module _ (on check : Bool) (d : Run) (mode : Mode) (p n : ℕ) (past : List Told
   rows-end (es ∷ rs) clean (Stopped s) w ts h = over-end (es ∷ rs) (es ∷ rs) (Stopped s) w ts refl h
   rows-end (es ∷ rs) clean (Refused why) w ts h = over-end (es ∷ rs) (es ∷ rs) (Refused why) w ts refl h
 
--- all rows of a call, after the rows ts
-pub rows-appended : (on check : Bool) (d : Run) {mode : Mode} {p n : ℕ} {ts : List Told} {c : Counts} {m : Memory} → Took mode p n ts c m → (rs : List (List Entry)) → ((i : ℕ) → i < length rs → CleanRow p n (getD rs i [])) → (answers : List ℕ)
-    → Ends on check d mode p n ts answers rs (takeRows on check rs (outcome (Taken (run 0 c)) (written m answers)))
+-- all rows of a call, from these counts and lists
+pub rows-strides : (on check : Bool) (d : Run) {p n : ℕ} (c : Counts) (m : Memory) (rs : List (List Entry)) → ((i : ℕ) → i < length rs → CleanRow p n (getD rs i [])) → (answers : List ℕ)
+    → Ends on check d p n c m answers rs (takeRows on check rs (outcome (Taken (run 0 c)) (written m answers)))
 unfolding accepted keep runIn
-rows-appended on check d {mode} {p} {n} {ts} {c} {m} took rs clean answers =
-    rows-end on check d mode p n ts answers rs clean (Taken (run 0 c)) (written m answers) []
-    (record { took = rw (append-nil ts) took; many = refl; numbers = λ h. sym (onto-nil answers); all = λ e goes. refl; some = λ r q. absurd (apart q) })
+rows-strides on check d {p} {n} c m rs clean answers =
+    rows-end on check d p n c m answers rs clean (Taken (run 0 c)) (written m answers) []
+    (record { strides = still; many = refl; numbers = λ h. sym (onto-nil answers); all = λ e goes. refl; some = λ r q. absurd (apart q) })

@@ -1,0 +1,4 @@
+pub mod Anews
+pub mod Calls
+pub mod Folds
+pub mod Runs

@@ -1,0 +1,1 @@
+// Laws only: each call that takes rows is a run of single steps.
