@@ -41,7 +41,8 @@ use Rattle.keeping.proofs.Grows.{Fits, upright-grown, upright-grows}
 use Rattle.keeping.proofs.Uppers.{Upright}
 use Rattle.reduced.specs.Building.{Built, empty, more as built-more, finished, Finished}
 use Rattle.reduced.specs.Order.{pivotColumns, columnDown, rowDown}
-use Rattle.reduced.proofs.Alikes.{Alike, answered-alike}
+use Rattle.walk.proofs.Same.{Alike}
+use Rattle.reduced.proofs.Alikes.{answered-alike}
 use Rattle.reduced.proofs.Builds.{built-finished, built-accepted}
 use Rattle.reduced.proofs.Orders.{down-within}
 use Rattle.reduced.proofs.Taken.{last-same, finished-echelon}

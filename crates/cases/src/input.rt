@@ -5,7 +5,7 @@ ghost use lib.ListN.{length};
 use words::seek;
 
 // The longest line of a case.
-const LONGEST: usize = 1000000;
+pub const LONGEST: usize = 1000000;
 
 // Between two steps: the line that is ready is from `start` up to `stop`, and is empty where none
 // is; the text from `next` up to `end` waits. `long` says that what waits belongs to a line that
@@ -119,9 +119,9 @@ fn move_front(text: &mut [u8], from: usize, n: usize)
     }
 }
 
-// The case from `start` up to `stop`; nothing of an empty line or a comment. Of a line that is too
-// long, its first byte, which is no case.
-pub fn case_of(lines: &[u8], start: usize, stop: usize) -> &[u8] {
+// The case from `start` up to `stop`; nothing of an empty line or a comment. Of a line of more than
+// `longest` bytes, its first byte, which is no case.
+pub fn case_of(lines: &[u8], start: usize, stop: usize, longest: usize) -> &[u8] {
     if start >= stop {
         return &lines[0..0];
     }
@@ -131,7 +131,7 @@ pub fn case_of(lines: &[u8], start: usize, stop: usize) -> &[u8] {
     if lines[start] == b'#' {
         return &lines[0..0];
     }
-    if stop - start > LONGEST {
+    if stop - start > longest {
         return &lines[start..start + 1];
     }
     &lines[start..stop]

@@ -1,8 +1,6 @@
 // Cases of the account check. A line is an account: the modulus, the rows, their answers, U, L and the
 // pivots, all read only, and dense memory, which is lent.
 mod calls;
-mod input;
 pub mod memory;
 
 pub use calls::said;
-pub use input::account_of;

@@ -24,7 +24,7 @@ use Rattle.state.specs.declared.Counts.{Counts}
 use Rattle.state.specs.declared.Mode.{Mode}
 use Rattle.state.specs.declared.Mode.the-variants.{Full}
 use Rattle.state.proofs.Faults.{held, not-refused}
-use Rattle.keeping.proofs.Lowers.{Level, fault-level}
+use Rattle.keeping.proofs.Lowers.{Level, fault-level, level-within}
 use Rattle.signs.specs.Asks.{Multiplies}
 use Rattle.signs.specs.Value.{lastOf}
 
@@ -33,18 +33,6 @@ last-small : (p : ℕ) → 0 < p → (xs : List ℕ) → ((k : ℕ) → k < leng
 unfolding lastOf
 last-small p pos [] small = pos
 last-small p pos (x ∷ xs) small = small (length (x ∷ xs) - 1) (omega arith)
-
--- numbers that never fall end highest
-up-to : (f : ℕ → ℕ) (n : ℕ) → ((i : ℕ) → i < n → f i ≤ f (i + 1)) → (i : ℕ) → i ≤ n → f i ≤ f n
-up-to f zero rises i h = let same : i ≡ 0 = omega arith in subst (λ (k : ℕ). f i ≤ f k) same (omega arith)
-up-to f (suc n) rises i h = go (decLt i (suc n)) (λ l. up-to f n (λ k q. rises k (omega arith)) i l)
-  where
-    step : f n ≤ f (suc n)
-    step = subst (λ (k : ℕ). f n ≤ f k) (add-one n) (rises n (omega arith))
-
-    go : Dec (i < suc n) → (i ≤ n → f i ≤ f n) → f i ≤ f (suc n)
-    go (yes l) before = omega (arith, before (omega arith), step)
-    go (no l) before = let same : i ≡ suc n = omega arith in subst (λ (k : ℕ). f i ≤ f k) same (omega arith)
 
 module _ (c : Counts) (cols vals ptrs : List ℕ) (least : 2 ≤ c .modulus) (sound : lFault Full c cols vals ptrs ≡ false) where
   both : (patternFault (c .rank) (c .«l_rows») (c .«l_fill») cols ptrs ≡ false) × (valuesFault (c .modulus) (c .«l_fill») vals ≡ false)
@@ -68,7 +56,7 @@ module _ (c : Counts) (cols vals ptrs : List ℕ) (least : 2 ≤ c .modulus) (so
       (below-p (c .modulus) (take (c .«l_fill») vals) (not-refused _ (first .1)) k (omega (arith, length-take-le (c .«l_fill») vals full-long)))
 
   rows-low : (i : ℕ) → i ≤ c .«l_rows» → getD ptrs i 0 ≤ c .«l_fill»
-  rows-low i h = omega (arith, up-to (λ k. getD ptrs k 0) (c .«l_rows») (full-level .rises) i h, full-level .ends)
+  rows-low = level-within full-level
 
   pub full-multiplies : Multiplies (c .modulus) (c .«l_rows») ptrs vals
   unfolding row places

@@ -3,7 +3,7 @@
 use mathlib.Core.Path.{_≡_, refl, sym, ap, subst, _∙_}
 use mathlib.Core.Bool.{true, false, not, _||_, cond}
 use mathlib.Core.List.{List}
-use Prim.Native.Nat.{ℕ, _+_, _-_, _≤_, _<_}
+use Prim.Native.Nat.{ℕ, zero, suc, _+_, _-_, _≤_, _<_}
 use native.Mathlib.Decide.{decLt}
 use native.Mathlib.Nat.{add-zero}
 use native.Mathlib.Omega.{arith}
@@ -44,6 +44,14 @@ pub record Level (rank rows fill : ℕ) (cols ptrs : List ℕ) : Type 0 where
   pub rises : (i : ℕ) → i < rows → getD ptrs i 0 ≤ getD ptrs (i + 1) 0
   pub ends : getD ptrs rows 0 ≡ fill
   pub low : (k : ℕ) → k < fill → getD cols k 0 < rank
+
+-- pointers never pass the fill
+pub level-within : {rank rows fill : ℕ} {cols ptrs : List ℕ} → Level rank rows fill cols ptrs → (i : ℕ) → i ≤ rows → getD ptrs i 0 ≤ fill
+level-within {rank} {rows} {fill} {cols} {ptrs} level i h = let d : ℕ = rows - i in go d i (omega arith)
+  where
+    go : (d i : ℕ) → i + d ≡ rows → getD ptrs i 0 ≤ fill
+    go zero i e = let here : i ≡ rows = omega arith in subst (λ (k : ℕ). getD ptrs k 0 ≤ fill) (sym here) (omega (arith, level .ends))
+    go (suc d) i e = let low : i < rows = omega arith in omega (arith, level .rises i low, go d (i + 1) (omega arith))
 
 module _ (rank rows fill : ℕ) (cols ptrs : List ℕ) where
   pub fault-level : patternFault rank rows fill cols ptrs ≡ false → Level rank rows fill cols ptrs

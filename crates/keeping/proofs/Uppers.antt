@@ -42,7 +42,7 @@ pub record Upright (p n rank fill : ℕ) (cols vals ptrs : List ℕ) (h : ℕ �
   pub rows : (r : ℕ) → r < rank → Fine p n fill (h r) cols vals ptrs r
 
 -- a row of the fronts is the whole lists'
-row-front : (rows fill : ℕ) (ptrs xs : List ℕ) (r : ℕ) → r < rows → getD ptrs (r + 1) 0 ≤ fill → fill ≤ length xs → row (take (rows + 1) ptrs) (take fill xs) r ≡ row ptrs xs r
+pub row-front : (rows fill : ℕ) (ptrs xs : List ℕ) (r : ℕ) → r < rows → getD ptrs (r + 1) 0 ≤ fill → fill ≤ length xs → row (take (rows + 1) ptrs) (take fill xs) r ≡ row ptrs xs r
 unfolding row
 row-front rows fill ptrs xs r h within fits =
     ap₂ (λ (a b : ℕ). part a b (take fill xs)) (getD-take (rows + 1) ptrs r 0 (omega arith)) (getD-take (rows + 1) ptrs (r + 1) 0 (omega arith))

@@ -23,17 +23,9 @@ use Rattle.stepping.specs.Asks.{Stands}
 use Rattle.stepping.specs.Take.{lists, lowerOf}
 use Rattle.stepping.proofs.Room.{LRoom, l-free}
 use Rattle.stepping.proofs.Walks.{parts, stands-inverts}
-use Rattle.keeping.proofs.Lowers.{Level}
+use Rattle.keeping.proofs.Lowers.{Level, level-within}
 use Rattle.keeping.proofs.Puts.{row-kept, row-new}
 use Rattle.determinant.proofs.Fulls.{full-level, full-long}
-
--- pointers never pass the fill
-pub level-within : {rank rows fill : ℕ} {cols ptrs : List ℕ} → Level rank rows fill cols ptrs → (i : ℕ) → i ≤ rows → getD ptrs i 0 ≤ fill
-level-within {rank} {rows} {fill} {cols} {ptrs} level i h = let d : ℕ = rows - i in go d i (omega arith)
-  where
-    go : (d i : ℕ) → i + d ≡ rows → getD ptrs i 0 ≤ fill
-    go zero i e = let here : i ≡ rows = omega arith in subst (λ (k : ℕ). getD ptrs k 0 ≤ fill) (sym here) (omega (arith, level .ends))
-    go (suc d) i e = let low : i < rows = omega arith in omega (arith, level .rises i low, go d (i + 1) (omega arith))
 
 -- L's row i
 abbrev pub lineOf : Lower → ℕ → List Entry

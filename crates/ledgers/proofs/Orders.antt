@@ -25,7 +25,7 @@ use Rattle.writing.specs.Puts.{putAt}
 use Rattle.stepping.specs.Asks.{Stands}
 use Rattle.stepping.specs.Take.{lists}
 use Rattle.stepping.proofs.Walks.{heads, stands-echelon}
-use Rattle.keeping.proofs.Lowers.{Level}
+use Rattle.keeping.proofs.Lowers.{Level, level-within}
 use Rattle.keeping.proofs.Puts.{row-kept, row-new}
 use Rattle.keeping.proofs.Settings.{rowsIn}
 use Rattle.signs.specs.Value.{lastOf, product, greater, inverted, inversions, signed, valueOf}
@@ -33,7 +33,6 @@ use Rattle.signs.proofs.Sums.{product-more}
 use Rattle.turns.proofs.Turns.{turns-same}
 use Rattle.ledgers.specs.Taken.{Took}
 use Rattle.ledgers.proofs.Diagonals.{all-rank, all-rows}
-use Rattle.ledgers.proofs.Lines.{level-within}
 use Rattle.ledgers.proofs.Takens.{took-stood}
 
 -- n rows of n columns, all accepted

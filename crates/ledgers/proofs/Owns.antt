@@ -19,13 +19,12 @@ use Rattle.state.proofs.Faults.{Held, lost-none, held}
 use Rattle.walk.specs.Step as S
 use Rattle.walk.specs.declared.Answer.the-variants.{None}
 use Rattle.steps.specs.History.{Told, told}
-use Rattle.states.proofs.Echelons.{part-front}
 use Rattle.stepping.specs.Asks.{Stands}
 use Rattle.stepping.specs.Take.{lists, lowerOf}
 use Rattle.stepping.proofs.Walks.{parts, heads}
-use Rattle.keeping.proofs.Lowers.{Level}
+use Rattle.keeping.proofs.Lowers.{Level, level-within}
 use Rattle.keeping.proofs.Settings.{rowsIn, stands-upright}
-use Rattle.keeping.proofs.Uppers.{Upright}
+use Rattle.keeping.proofs.Uppers.{Upright, row-front}
 use Rattle.telling.specs.Answers.{number}
 use Rattle.accounts.specs.Account.{Account, uWhole, lCount, lRow, answerAt}
 use Rattle.strides.specs.Strides.{rowsOfTold}
@@ -33,7 +32,7 @@ use Rattle.ledgers.specs.Own.{accountOf}
 use Rattle.ledgers.proofs.Balances.{Tells}
 use Rattle.ledgers.proofs.Judges.{booksOf}
 use Rattle.ledgers.proofs.Ledgers.{Alike}
-use Rattle.ledgers.proofs.Lines.{level-within, lineOf, l-level, l-long}
+use Rattle.ledgers.proofs.Lines.{lineOf, l-level, l-long}
 use Rattle.ledgers.proofs.Pages.{headIn, booksIn}
 
 -- what is made of each row taken
@@ -52,13 +51,6 @@ own-tells p n ts c m = record {
   row = λ r h. ap (λ (rs : List (List Entry)). getD rs r []) (rows-compressed n (rowsOfTold ts)) ∙ List·getD-map (λ (t : Told). t .row) ts r (told [] None);
   answer = λ r h. made-at (λ (t : Told). number (t .answer)) ts (told [] None) r h;
 }
-
--- a row of the fronts is the whole lists'
-row-front : (rows fill : ℕ) (ptrs xs : List ℕ) (r : ℕ) → r < rows → getD ptrs (r + 1) 0 ≤ fill → fill ≤ length xs → row (take (rows + 1) ptrs) (take fill xs) r ≡ row ptrs xs r
-unfolding row
-row-front rows fill ptrs xs r h within fits =
-    ap₂ (λ (a b : ℕ). part a b (take fill xs)) (getD-take (rows + 1) ptrs r 0 (omega arith)) (getD-take (rows + 1) ptrs (r + 1) 0 (omega arith))
-    ∙ part-front (getD ptrs r 0) (getD ptrs (r + 1) 0) fill xs within fits
 
 -- entries cut into rows, or rows side by side
 entries-row : (ptrs cols vals : List ℕ) (i : ℕ) → length cols ≡ length vals → getD ptrs (i + 1) 0 ≤ length vals → row ptrs (entries cols vals) i ≡ entries (row ptrs cols i) (row ptrs vals i)

@@ -1,10 +1,11 @@
 // The lines of the input, one after the other.
 use answers::ROOM;
 use answers::end;
+use cases::input::case_of;
 use cases::input::no_lines;
 use cases::input::step;
-use cases_account::account_of;
 use cases_account::memory::LINES;
+use cases_account::memory::LONGEST;
 use cases_account::memory::NUMBERS;
 use cases_account::memory::PLACES;
 use cases_account::memory::POINTERS;
@@ -24,7 +25,7 @@ pub fn replay(
     let mut left = u64::MAX;
     while left > 0 {
         state = step(lines, state);
-        let case = account_of(lines, state.start, state.stop);
+        let case = case_of(lines, state.start, state.stop, LONGEST);
         fill = answer(case, nums, wides, dense, out, fill);
         if state.done {
             return fill;
