@@ -22,8 +22,8 @@ loop-holds c = omega arith
 step-requires : tie.Need-step-requires Inv-loop μ-loop
 step-requires c κs = tt
 
-account-of-requires : tie.Need-account-of-requires Inv-loop μ-loop
-account-of-requires c κs = tt
+case-of-requires : tie.Need-case-of-requires Inv-loop μ-loop
+case-of-requires c κs = tt
 
 answer-requires : tie.Need-answer-requires Inv-loop μ-loop
 answer-requires c κs = tt
@@ -52,7 +52,7 @@ replay-spec =
     no-lines-requires
     loop-holds
     step-requires
-    account-of-requires
+    case-of-requires
     answer-requires
     returns
     sub-left

@@ -1,0 +1,11 @@
+pub mod Accepts
+pub mod Exactly
+pub mod Examples
+pub mod Fronts
+pub mod Heads
+pub mod Numbers
+pub mod Passes
+pub mod Places
+pub mod Readings
+pub mod Spells
+pub mod Threes

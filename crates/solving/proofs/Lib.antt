@@ -1,0 +1,4 @@
+pub mod Notebook
+pub mod Promises
+pub mod Solves
+pub mod Wholes
