@@ -19,7 +19,7 @@ DROPPED = {"search rules", "omega arith"}
 def norm(name):
     name = re.sub(r"^(overflow|nonzero)[-_]", "", name)
     name = name.replace("_", "-")
-    return re.sub(r"-+", "-", name)
+    return re.sub(r"-([0-9]+)$", r"\1", re.sub(r"-+", "-", name))
 
 
 class Names:
@@ -37,6 +37,12 @@ class Names:
             old, new = row[2]
             if old:
                 self.steps.setdefault(norm(old), new)
+        # what an arm says stood under a step of its own: `found.given.1` is the arm's `is`
+        self.arms = {}
+        for arm in of["arms"]:
+            for field, step, path in arm[2] if arm else []:
+                if field in ("is", "ensures") or not field.endswith("-own"):
+                    self.arms.setdefault(norm(step), {}).setdefault(tuple(path), f"{arm[0]}.{field}")
         self.loops = of["loops"]
         self.changed = of["changed"]
         self.settled = of["settled"]
@@ -105,7 +111,10 @@ def path_turned(text, names, lemma_place, at, renamed):
             befores += 1
         if not parts:
             return f"{head}@@{befores}@@"
-        step = names.steps.get(norm(parts[0]))
+        step = names.steps.get(norm(parts[0])) or names.steps.get(re.sub(r"-[0-9]+$", "", norm(parts[0])))
+        for path, to in names.arms.get(norm(parts[0]), {}).items():
+            if tuple(parts[1 : 1 + len(path)]) == path and path != ("ensures",):
+                return ".".join([head, to] + parts[1 + len(path) :])
         if step:
             parts[0] = step
         return head + "." + ".".join(parts)
@@ -127,6 +136,10 @@ def inline_aliases(text):
 
 def turn(path, names, crate, inner):
     text = open(path, encoding="utf-8").read()
+    text = text.replace("type-inv", "type_inv").replace("type_inv_", "type-inv-")
+    if "+" in inner:
+        # the measure's equation is no part of it any more
+        text = text.replace(".requires.1", ".requires")
     head, uses, decls = blocks(text)
     lemma_place = {}
     invariants, answers, said = [], [], []
@@ -161,7 +174,7 @@ def turn(path, names, crate, inner):
 def turn_invariant(name, typ, body, comment, names, out, said):
     old = norm(re.sub(r"^(invariant|decreases)[-_]", "", name))
     kind = "invariant" if name.startswith("invariant") else "decreases"
-    found = re.match(rf"{re.escape(name)}((?:\s+{W})*)\s*=\s*(.*)$", body, re.S)
+    found = re.match(rf"{re.escape(name)}((?:\s+{W})*?)\s+=\s+(.*)$", body, re.S)
     if not found:
         said.append("invariant: " + name)
         return
@@ -187,8 +200,8 @@ def turn_invariant(name, typ, body, comment, names, out, said):
     out.append((kind, loop[0][1], comment, text, ""))
 
 
-def whole_args(text, names, lemma_place, at):
-    """`lemma c.before` passes the record of the lemma's place."""
+def whole_args(text, names, lemma_place, at, goal=None, params=("c",)):
+    """`lemma c.before` passes the record of the lemma's place, which `goal.at` gives."""
 
     def one(found):
         lemma, gap, arg = found.group(1), found.group(2), found.group(3)
@@ -196,10 +209,11 @@ def whole_args(text, names, lemma_place, at):
         place = lemma_place.get(lemma)
         if place is None:
             return found.group(0)
-        n = names.up(at, place) if at else None
-        if n is None:
-            return found.group(0).replace(arg, base + ".BEFORE")
-        return lemma + gap + base + ".before" * n
+        if goal:
+            return f"{lemma}{gap}(goal.at.{goal} {' '.join(params)}).{place}"
+        if place == at:
+            return lemma + gap + base
+        return f"{lemma}{gap}NESTED {base} at {place}"
 
     lemmas = "|".join(re.escape(k) for k in sorted(lemma_place, key=len, reverse=True))
     if lemmas:
@@ -207,14 +221,14 @@ def whole_args(text, names, lemma_place, at):
     return re.sub(r"@@(\d+)@@", lambda m: ".before" * int(m.group(1)), text)
 
 
-def turned_body(body, names, lemma_place, at):
+def turned_body(body, names, lemma_place, at, goal=None, params=("c",)):
     body = inline_aliases(body)
     body = path_turned(body, names, lemma_place, at, {})
-    return whole_args(body, names, lemma_place, at)
+    return whole_args(body, names, lemma_place, at, goal, params)
 
 
 def turn_answer(name, new, unf, body, comment, names, lemma_place, out):
-    found = re.match(rf"{re.escape(name)}((?:\s+{W})*)\s*=\s*(.*)$", body, re.S)
+    found = re.match(rf"{re.escape(name)}((?:\s+{W})*?)\s+=\s+(.*)$", body, re.S)
     if not found:
         out.append((new, comment, [f"-- ?? {body}"], None))
         return
@@ -223,8 +237,8 @@ def turn_answer(name, new, unf, body, comment, names, lemma_place, out):
     if plain in DROPPED:
         return
     at = names.place_of_need.get(new)
-    text = turned_body(text, names, lemma_place, at)
     params = [p for p in params if p != "κs"]
+    text = turned_body(text, names, lemma_place, at, new, params)
     lines = [f"pub {new} : goal.{new}"] + unf + [f"{new} {' '.join(params)} =" + ("\n" if text.startswith("\n") else " ") + text.lstrip("\n")]
     out.append((new, comment, lines, at))
 
@@ -238,7 +252,7 @@ def turn_lemma(name, typ, unf, body, comment, names, lemma_place, out):
     lemma_place[name] = place
     typ = f"{found.group(1)}({found.group(2)} : {place}){found.group(5)}"
     typ = turned_body(typ, names, lemma_place, place)
-    eq = re.match(rf"({re.escape(name)}(?:\s+{W})*\s*=)(.*)$", body, re.S)
+    eq = re.match(rf"({re.escape(name)}(?:\s+{W})*?\s+=\s)(.*)$", body, re.S)
     new_body = (eq.group(1) + turned_body(eq.group(2), names, lemma_place, place)) if eq else body
     out.append((name, comment, [f"{name} : {typ}"] + unf + [new_body], place))
 
@@ -259,7 +273,7 @@ def imports(uses, texts, dropped=("Statement", "Tie")):
             short = it.split(" as ")[-1].strip()
             op = re.sub("◌", " ", short).split()
             if "◌" in short:
-                if all(o in tokens for o in op):
+                if short in tokens or all(o in tokens for o in op):
                     keep.append(it)
             elif short in tokens:
                 keep.append(it)

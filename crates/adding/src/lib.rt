@@ -2,6 +2,8 @@
 //
 // A reducer is its record of counts and the lent lists u_cols, u_vals, u_ptrs, l_cols, l_vals, l_ptrs,
 // pivots. The row is cols and vals; dense is lent memory of at least a place for each column.
+#![tactic(auto)]
+
 pub mod inside;
 mod rows;
 
@@ -10,7 +12,7 @@ use sparse::Refusal;
 use stepping::Stepped;
 
 // What a call that adds a row answers: the row's answer and the counts afterwards, or a refusal.
-#[derive(Drop)]
+#[derive(Clone, Copy)]
 pub enum Added {
     Answered(Stepped),
     Refused(Refusal),

@@ -1,11 +1,13 @@
 // The answers' text, in the form of replay's FORMAT.md. It waits at the front of `out`, which is written out where it is full, and at
 // the end of the run. Each function is handed how many bytes wait, and answers how many then do.
+#![tactic(auto)]
+
 use sparse::inside::number_of;
 use sparse::{Built, Refusal};
 
 // What a case comes to: so many bytes wait with its answer, or it is malformed, or no call of the
 // family that was asked.
-#[derive(Drop)]
+#[derive(Clone, Copy)]
 pub enum Said {
     To(usize),
     Bad,
@@ -19,7 +21,7 @@ const MANY: u64 = 1000000;
 
 // A list that is being written: the bytes that wait, the run of equal elements that is not written
 // yet, and whether one was written before it.
-#[derive(Drop)]
+#[derive(Clone, Copy)]
 struct Run {
     fill: usize,
     value: u64,

@@ -2,6 +2,8 @@
 //
 // A reducer is its record of counts and the lent lists u_cols, u_vals, u_ptrs, l_cols, l_vals, l_ptrs,
 // pivots. The second U is lent as back_cols, back_vals, back_ptrs; the pivot table becomes its table.
+#![tactic(auto)]
+
 mod back;
 mod rows;
 
@@ -10,7 +12,7 @@ use sparse::Refusal;
 use state::Counts;
 
 // What back substitution answers: the counts of the second U, or why nothing was written.
-#[derive(Drop)]
+#[derive(Clone, Copy)]
 pub enum Backed {
     Made(Counts),
     Refused(Refusal),

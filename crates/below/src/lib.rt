@@ -1,4 +1,6 @@
 // What is joined below a matrix: another matrix, a row, to separate lent memory.
+#![tactic(auto)]
+
 mod matrices;
 mod rows;
 mod single;

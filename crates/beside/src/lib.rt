@@ -1,4 +1,6 @@
 // What is joined beside a matrix: a column, the identity, to separate lent memory.
+#![tactic(auto)]
+
 mod column;
 mod identity;
 

@@ -1,4 +1,6 @@
 // The determinant with the words of a case, and what it answers.
+#![tactic(auto)]
+
 use answers::{ROOM, put_count, put_list, put_refused};
 use cases::table::{list, number, pointers};
 use cases_rows::memory::{put_counts, put_memory};

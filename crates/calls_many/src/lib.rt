@@ -1,5 +1,7 @@
 // The calls that take the rows of a matrix, by their row of the table: the two walks of each stand side
 // by side, the first walk first.
+#![tactic(auto)]
+
 use calls_whole::{added, made};
 use cases::table::{list, number, pointers};
 use cases_rows::memory::mode;

@@ -1,4 +1,6 @@
 // The report of a text in memory as the case has it, and the answer to the case.
+#![tactic(auto)]
+
 use answers::{ROOM, Said, put, put_refused};
 use cases_text::form::{TEXT, first_number, put_bytes, read_text};
 use cases_text::memory::{SHOWN, kept, kept_pointers, kept_text, lend, lend_pointers, lend_text};
@@ -22,7 +24,7 @@ const FILLED: usize = 4096;
 const MOST_SHORT: u8 = 14;
 
 // What the call answers, and whether all lent memory but the report's is as it was.
-#[derive(Drop)]
+#[derive(Clone, Copy)]
 struct Outcome {
     printed: Printed,
     kept: bool,

@@ -1,5 +1,7 @@
 // The calls that take all rows of a matrix, with the words of a case. `on` says that a walk goes on after
 // its pivot.
+#![tactic(auto)]
+
 use cases::table::{list, number, pointers};
 use cases_rows::memory::{counts, mode};
 use telling::Reduced;

@@ -10,7 +10,7 @@ pub const LONGEST: usize = 1000000;
 // Between two steps: the line that is ready is from `start` up to `stop`, and is empty where none
 // is; the text from `next` up to `end` waits. `long` says that what waits belongs to a line that
 // did not fit, and `done` that the input has ended.
-#[derive(Drop)]
+#[derive(Clone, Copy)]
 pub struct Lines {
     pub start: usize,
     pub stop: usize,

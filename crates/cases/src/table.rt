@@ -11,14 +11,14 @@ const MOST_WORDS: usize = 21;
 const MARKS: usize = 44;
 
 // A case that was read: the row of its call in the table, and how many words follow the name.
-#[derive(Drop)]
+#[derive(Clone, Copy)]
 pub struct Case {
     pub call: usize,
     pub words: usize,
 }
 
 // A modulus, and the shape of a matrix.
-#[derive(Drop)]
+#[derive(Clone, Copy)]
 pub struct Shape {
     pub p: u32,
     pub nrows: u32,
@@ -26,7 +26,7 @@ pub struct Shape {
 }
 
 // A row of a table: its number, where the name ends in the line, and where the letters start.
-#[derive(Drop)]
+#[derive(Clone, Copy)]
 struct Row {
     call: usize,
     at: usize,

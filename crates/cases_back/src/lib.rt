@@ -1,4 +1,6 @@
 // Cases of back substitution, which lends dense memory, the second U and the pivots.
+#![tactic(auto)]
+
 use answers::{ROOM, Said, put_list, put_pointers, put_refused};
 use backing::Backed;
 use cases::table::{has_call, list, pointers, read_case};

@@ -1,4 +1,6 @@
 // Cases of determinants, which lend dense memory and a reducer's.
+#![tactic(auto)]
+
 use answers::{ROOM, Said};
 use calls_det::determined;
 use cases::table::{has_call, read_case};

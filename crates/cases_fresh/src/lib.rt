@@ -1,4 +1,6 @@
 // Cases of the fresh start, which is lent the pointers of U and of L and the pivots.
+#![tactic(auto)]
+
 use answers::{ROOM, Said, put, put_list, put_pointers, put_refused};
 use cases::memory::{lend, lend_pointers};
 use cases::table::{has_call, list, number, pointers, read_case};

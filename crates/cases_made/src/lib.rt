@@ -1,4 +1,6 @@
 // Cases of the calls that make a matrix. Their last three words are the lent memory.
+#![tactic(auto)]
+
 mod calls;
 
 use answers::{ROOM, Said, put_built, put_list, put_pointers};

@@ -1,4 +1,6 @@
 // Cases of the calls that take the rows of a matrix. Their last nine words are the lent memory.
+#![tactic(auto)]
+
 ghost use Rattle.std.specs.Prelude.{◌≤◌};
 
 use answers::{ROOM, Said};

@@ -1,5 +1,7 @@
 // What the cases of inserted columns, back substitution and determinants have in common: the sizes of a
 // line's memory, of which the other lists have those of the calls that take rows; a lent word; an answer.
+#![tactic(auto)]
+
 use answers::{ROOM, put};
 use cases::memory::{lend, lend_pointers};
 use cases::table::{list, pointers};

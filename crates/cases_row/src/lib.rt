@@ -1,4 +1,6 @@
 // The calls that take one row.
+#![tactic(auto)]
+
 use adding::Added;
 use answers::{ROOM, Said, put_list};
 use cases::memory::{lend, lend_pointers};

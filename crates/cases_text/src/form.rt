@@ -15,7 +15,7 @@ pub const TEXT: usize = 33000;
 const NOTHING: usize = usize::MAX;
 
 // A byte, and the place in the line after it.
-#[derive(Drop)]
+#[derive(Clone, Copy)]
 struct Byte {
     byte: u8,
     next: usize,

@@ -1,4 +1,6 @@
 // Cases of the calls that are lent nothing: of numbers, the tests, and `is_one`.
+#![tactic(auto)]
+
 mod calls;
 
 use answers::{ROOM, Said};

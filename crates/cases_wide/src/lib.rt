@@ -1,4 +1,6 @@
 // Cases of columns inserted in a reducer, which lends U's columns and the pivots.
+#![tactic(auto)]
+
 use answers::{ROOM, Said, put_list, put_refused};
 use cases::table::{has_call, list, pointers, read_case};
 use cases_reduced::{ENTRIES, NUMBERS, lend_word, put_made};

@@ -1,4 +1,6 @@
 // The account check: whether rows, their answers, U, L and pivots fit together.
+#![tactic(auto)]
+
 pub mod calls;
 pub mod rows;
 mod tests;
@@ -7,7 +9,7 @@ pub use calls::check_account;
 use sparse::Refusal;
 
 // What the account check answers.
-#[derive(Drop)]
+#[derive(Clone, Copy)]
 pub enum Verdict {
     Yes,
     No,

@@ -2,6 +2,8 @@
 //
 // A reducer is its record of counts and the lent lists u_cols, u_vals, u_ptrs, l_cols, l_vals, l_ptrs,
 // pivots; dense is lent memory of at least a place for each column.
+#![tactic(auto)]
+
 mod calls;
 
 pub use calls::det;
@@ -9,7 +11,7 @@ use sparse::Refusal;
 use telling::{Run, Stop};
 
 // A determinant, and the rows that were taken for it.
-#[derive(Drop)]
+#[derive(Clone, Copy)]
 pub struct Valued {
     pub value: u32,
     pub run: Run,
@@ -17,7 +19,7 @@ pub struct Valued {
 
 // What asking for a determinant answers: its value; that it ended at a row for want of room, and the
 // rows before stay; or why it was refused, and everything is as it came.
-#[derive(Drop)]
+#[derive(Clone, Copy)]
 pub enum Determined {
     Value(Valued),
     Stopped(Stop),

@@ -2,6 +2,8 @@
 //
 // For a caller that keeps the record in a struct of its own; its proof is a walk by hand. Everyone else,
 // and every function whose walk the check writes, calls `adding`: the record by value, the new one answered.
+#![tactic(auto)]
+
 ghost use Rattle.std.specs.Prelude.{◌≡◌, true, false};
 ghost use Rattle.sparse.specs.Lent.{outcome};
 ghost use Rattle.state.specs.Memory.{memory};
@@ -15,7 +17,7 @@ use state::Counts;
 use step::{enter, enter_with_back_subs};
 
 // What a row came to: accepted at this column, none, or refused.
-#[derive(Drop)]
+#[derive(Clone, Copy)]
 pub enum Told {
     Accepted(u32),
     None,
@@ -23,7 +25,7 @@ pub enum Told {
 }
 
 // What a row came to, and the counts afterwards.
-#[derive(Drop)]
+#[derive(Clone, Copy)]
 pub struct Entered {
     pub counts: Counts,
     pub told: Told,

@@ -1,1 +1,2 @@
 // Laws only: a row's step leaves a state, whatever its answer.
+#![tactic(auto)]

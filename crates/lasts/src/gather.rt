@@ -15,7 +15,7 @@ use readers::inside::vector_room_test;
 use sparse::{Built, Tested};
 
 // What the vector is indexed by: rows, rows from the last up, or pivot columns.
-#[derive(Drop)]
+#[derive(Clone, Copy)]
 pub enum Order {
     ByRow,
     Reversed,
@@ -23,7 +23,7 @@ pub enum Order {
 }
 
 // What a row holds in the last column.
-#[derive(Drop)]
+#[derive(Clone, Copy)]
 pub enum Last {
     Nothing,
     Value(u32),

@@ -1,5 +1,7 @@
 // The last column of a matrix as a vector, indexed by row, by row from the last up, or by pivot
 // column.
+#![tactic(auto)]
+
 mod columns;
 mod gather;
 

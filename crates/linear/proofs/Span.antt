@@ -1,16 +1,15 @@
 -- Combinations with factors of any size: closed under sums, multiples and composition, and the same as combinations.
 -- Assumes nothing.
-use mathlib.Core.Path.{◌≡◌, refl, sym, ap, ap₂, ◌∙◌}
-use mathlib.Core.Logic.{◌↔◌}
+use mathlib.Core.Path.{◌≡◌, refl, sym, ap, ◌∙◌}
 use mathlib.Core.Bool.{cond}
-use Prim.Native.Nat.{ℕ, zero, suc, ◌+◌, ◌-◌, ◌*◌, ◌%◌, ◌≤◌, ◌<◌}
-use native.Mathlib.Nat.{mod-lt, mod-eq_of_lt, mod-mod, mod-add-mod, add-mod-mod, mul-zero, zero-mul, one-mul, mul-one, mul_assoc, mul_comm, add-mul, mul-add, zero-mod, add-mul-mod_self_left, add_comm, suc-mul}
+use Prim.Native.Nat.{ℕ, zero, suc, ◌+◌, ◌-◌, ◌*◌, ◌%◌, ◌<◌}
+use native.Mathlib.Nat.{mod-lt, mod-eq_of_lt, mod-mod, mod-add-mod, add-mod-mod, zero-mul, one-mul, mul_assoc, add-mul, add-mul-mod_self_left, add_comm, suc-mul}
 use native.Mathlib.Omega.{arith}
 use lib.Dec.{eqb}
 use borrow.Author.Tests.{eq-eqb, ne_eqb}
 use Rattle.lists.specs.Sum.{Σ}
-use Rattle.lists.proofs.Mods.{mods, prods, mod_mul_mod, mul_mod_mod, cancel_mod}
-use Rattle.lists.proofs.Sums.{sum-ext, sum-zero, sum-add, sum-mul, sum-swap, sum_one, sum_same}
+use Rattle.lists.proofs.Mods.{mod_mul_mod, mul_mod_mod}
+use Rattle.lists.proofs.Sums.{sum-ext, sum-zero, sum-add, sum-mul, sum_one, sum_same}
 use Rattle.linear.specs.Combination.{Combination}
 
 -- x is, modulo p, a sum of multiples of the k rows r

@@ -1,1 +1,2 @@
 // Laws only: combinations of rows modulo p, and rows with distinct heads. Nothing of memory, no code.
+#![tactic(auto)]

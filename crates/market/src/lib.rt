@@ -1,6 +1,8 @@
 // Matrix Market text, as document 01 cuts it: read, tested, and its entries written to lent memory.
 //
 // The inside of the library. A place in the text goes in, and the place after what was read comes back.
+#![tactic(auto)]
+
 pub mod lines;
 pub mod tests;
 

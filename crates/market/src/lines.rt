@@ -5,20 +5,20 @@ ghost use Rattle.market.specs.Parse.{past, uncomment, decimal_to, line, lines, s
 ghost use Rattle.market.specs.Places.{front_read, number_read, line_read, listed};
 
 // A number, and the place past the byte that ended it.
-#[derive(Drop)]
+#[derive(Clone, Copy)]
 pub struct Parsed {
     pub value: u64,
     pub next: usize,
 }
 
-#[derive(Drop)]
+#[derive(Clone, Copy)]
 pub enum Decimal {
     Number(Parsed),
     Neither,
 }
 
 // A line's three numbers, and the place past its line feed.
-#[derive(Drop)]
+#[derive(Clone, Copy)]
 pub struct Numbers {
     pub row: u64,
     pub col: u64,
@@ -26,7 +26,7 @@ pub struct Numbers {
     pub next: usize,
 }
 
-#[derive(Drop)]
+#[derive(Clone, Copy)]
 pub enum Line {
     Three(Numbers),
     Other,

@@ -10,7 +10,7 @@ use crate::{MAX_ENTRIES, MAX_SIDE, MAX_TEXT, MODULUS};
 use sparse::{Refusal, Tested};
 
 // What is wrong with the entries that were read, and the place of the last of them.
-#[derive(Drop)]
+#[derive(Clone, Copy)]
 pub struct Faults {
     pub large: bool,
     pub zero: bool,
@@ -21,7 +21,7 @@ pub struct Faults {
 }
 
 // The faults of all entries, or a text that isn't one.
-#[derive(Drop)]
+#[derive(Clone, Copy)]
 pub enum Walked {
     Whole(Faults),
     Broken,

@@ -1,1 +1,2 @@
 // Laws only: what the tests and compressed rows mean. No code.
+#![tactic(auto)]

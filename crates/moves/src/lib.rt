@@ -1,5 +1,7 @@
 // What is moved in a matrix, to separate lent memory: its rows into the order of a pivot table; its right half,
 // the rows reversed.
+#![tactic(auto)]
+
 mod halves;
 mod sorted;
 

@@ -1,1 +1,2 @@
 // Laws only: what the answers of a call of many rows mean.
+#![tactic(auto)]

@@ -1,5 +1,7 @@
 // Rank, determinant and U of a matrix, modulo 2,147,483,647: of the Matrix Market text in the file that the
 // argument names, or of standard input where there is no argument.
+#![tactic(auto)]
+
 mod work;
 
 use libc::{STDIN_FILENO, STDOUT_FILENO};

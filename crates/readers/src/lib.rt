@@ -1,4 +1,6 @@
 // What a matrix holds: its last row, and whether it is the identity.
+#![tactic(auto)]
+
 mod identity;
 pub mod inside;
 mod rows;
@@ -8,7 +10,7 @@ pub use rows::last_row;
 use sparse::Refusal;
 
 // What `last_row` answers: nothing where there are no rows, else the row's number and its entries.
-#[derive(Drop)]
+#[derive(Clone, Copy)]
 pub enum LastRow {
     Nothing,
     Row(u32, usize),
@@ -16,7 +18,7 @@ pub enum LastRow {
 }
 
 // A yes or no, or why there is none.
-#[derive(Drop)]
+#[derive(Clone, Copy)]
 pub enum Verdict {
     Yes,
     No,

@@ -1,4 +1,6 @@
 // A reader over one lent row, which yields its entries.
+#![tactic(auto)]
+
 ghost use Rattle.std.specs.Prelude.{◌≡◌};
 ghost use Rattle.sparse.specs.Lent.{outcome};
 ghost use Rattle.reading.specs.Read.{step_at, reader_at, next_of};
@@ -6,7 +8,7 @@ ghost use Rattle.reading.specs.Read.{step_at, reader_at, next_of};
 use sparse::{MAX_SIDE, Refusal};
 
 // A row's lent columns and values, and the place of the entry that is read next.
-#[derive(Drop)]
+#[derive(Clone, Copy)]
 pub struct Reader<'a> {
     pub cols: &'a [u32],
     pub vals: &'a [u32],
@@ -14,7 +16,7 @@ pub struct Reader<'a> {
 }
 
 // What stands at a place: an entry's column and value, or nothing past the last entry.
-#[derive(Drop)]
+#[derive(Clone, Copy)]
 pub enum Read {
     Entry(u32, u32),
     Done,
@@ -22,7 +24,7 @@ pub enum Read {
 }
 
 // What was read, and the place to read next.
-#[derive(Drop)]
+#[derive(Clone, Copy)]
 pub struct Step {
     pub read: Read,
     pub place: usize,

@@ -1,5 +1,7 @@
 // Replays cases: reads them from standard input, one a line, and prints for each the answer and
 // every lent element afterwards. FORMAT.md has the text form.
+#![tactic(auto)]
+
 mod calls;
 mod lines;
 

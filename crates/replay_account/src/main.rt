@@ -1,5 +1,7 @@
 // Replays cases of the account check: reads accounts from standard input, one a line, and prints for each
 // the verdict and dense memory afterwards. FORMAT.md says how an account is written.
+#![tactic(auto)]
+
 mod lines;
 
 use cases_account::memory::{LINES, NUMBERS, PLACES, POINTERS};

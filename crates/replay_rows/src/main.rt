@@ -1,6 +1,8 @@
 // Replays cases of the reducer's calls that take rows: reads them from standard input, one a line, and
 // prints for each the answer, the counts and every lent element afterwards. The text form is that of
 // replay's FORMAT.md.
+#![tactic(auto)]
+
 mod calls;
 mod lines;
 

@@ -1,5 +1,7 @@
 // Replays cases of the report: reads texts from standard input, one a line, and prints for each what the
 // report has, or its refusal, and whether the lent memory is as it was. FORMAT.md says how a text is written.
+#![tactic(auto)]
+
 mod lines;
 
 use cases_text::form::{LINES, TEXT};

@@ -1,7 +1,6 @@
 -- What tests that find nothing tell: a pointer for each row and one more, and each row within the entries.
 -- Assumes nothing.
 use mathlib.Core.Path.{◌≡◌}
-use mathlib.Core.Bool.{◌||◌}
 use mathlib.Core.List.{List}
 use Prim.Native.Nat.{ℕ, ◌+◌, ◌≤◌, ◌<◌}
 use native.Mathlib.Omega.{arith}
@@ -10,7 +9,6 @@ use lib.ListN.{length, get_or}
 use borrow.Author.Tests.{ltb-false, eqb-true, not-false}
 use Rattle.sparse.specs.Asks.{Pointers, Cut}
 use Rattle.sparse.specs.Matrix.{Matrix}
-use Rattle.sparse.specs.Refusals.{refuse}
 use Rattle.sparse.specs.Tests.{size_test, shape_test, row_test, rows_test, matrix_test, well_formed}
 use Rattle.sparse.specs.declared.Refusal.TheVariants.{Size}
 use Rattle.sparse.specs.declared.Tested.TheVariants.{Good}

@@ -1,5 +1,5 @@
 -- Compressed rows, as they are lent, and what they mean.
-use Rattle.std.specs.Prelude.{ℕ, ◌+◌, ◌-◌, cond, List, [], ◌∷◌, eqb, length, get_or, take, drop}
+use Rattle.std.specs.Prelude.{ℕ, ◌+◌, ◌-◌, cond, List, eqb, length, get_or, take, drop}
 use Rattle.lists.specs.Sum.{Σ}
 
 -- a matrix as it is lent

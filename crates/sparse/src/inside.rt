@@ -12,7 +12,7 @@ use crate::{MAX_SIDE, Refusal, Tested};
 use field::prime::is_modulus;
 
 // What 6 and 7 ask of a value.
-#[derive(Drop)]
+#[derive(Clone, Copy)]
 pub enum Clause {
     Residue,
     Nonzero,
@@ -284,7 +284,7 @@ pub fn room_test(
 // Copies src to the front of dst.
 pub fn copy(src: &[u32], dst: &mut [u32])
     requires { length src.now ≤ length dst.old }
-    ensures { dst.new ≡ src.now onto (λ x. x.now) dst.entry }
+    ensures { dst.new ≡ src.now onto dst.old }
 {
     let mut i = 0;
     while i < src.len() {

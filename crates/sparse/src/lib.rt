@@ -2,6 +2,8 @@
 //
 // A matrix is (nrows, ncols, row_ptrs, col_idcs, values): row i has the entries from row_ptrs[i] up
 // to row_ptrs[i + 1]. A vector is (len, idcs, values). The modulus p stands first in every call.
+#![tactic(auto)]
+
 pub mod inside;
 mod tests;
 
@@ -14,7 +16,7 @@ pub const MAX_SIDE: u32 = 1024;
 pub const MAX_ENTRIES: usize = 65536;
 
 // Why a call is refused; specs/Refusals.antt has the number of each. Only the tests make one.
-#[derive(Drop)]
+#[derive(Clone, Copy)]
 pub enum Refusal {
     Modulus,
     Size,
@@ -34,14 +36,14 @@ pub enum Refusal {
 }
 
 // What a test finds.
-#[derive(Drop)]
+#[derive(Clone, Copy)]
 pub enum Tested {
     Good,
     Refused(Refusal),
 }
 
 // What a call that writes a matrix answers: how many entries it has, or why there is none.
-#[derive(Drop)]
+#[derive(Clone, Copy)]
 pub enum Built {
     Made(usize),
     Refused(Refusal),

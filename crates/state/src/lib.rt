@@ -2,6 +2,8 @@
 //
 // The lists of a reducer are lent in this order: u_cols, u_vals, u_ptrs, l_cols, l_vals, l_ptrs,
 // pivots. Row r of U has the entries from u_ptrs[r] up to u_ptrs[r + 1], and so has L.
+#![tactic(auto)]
+
 pub mod inside;
 pub mod multipliers;
 mod rows;
@@ -11,7 +13,7 @@ use sparse::Refusal;
 pub use start::new;
 
 // What is kept of L: columns and values, columns alone, or nothing.
-#[derive(Drop)]
+#[derive(Clone, Copy)]
 pub enum Mode {
     Full,
     Pattern,
@@ -19,7 +21,7 @@ pub enum Mode {
 }
 
 // The record of counts: rank is the number of U's rows, the fills are the entries of U and L.
-#[derive(Drop)]
+#[derive(Clone, Copy)]
 pub struct Counts {
     pub mode: Mode,
     pub modulus: u32,
@@ -31,7 +33,7 @@ pub struct Counts {
 }
 
 // What a fresh start answers.
-#[derive(Drop)]
+#[derive(Clone, Copy)]
 pub enum Fresh {
     Opened(Counts),
     Refused(Refusal),

@@ -113,7 +113,7 @@ pub fn start(ncols: u32, mode: Mode, u_ptrs: &mut [usize], l_ptrs: &mut [usize],
 
 fn mark_columns(ncols: u32, pivots: &mut [u32])
     requires { ncols ≤ length pivots.old }
-    ensures { pivots.new ≡ table ncols (λ j. mark) onto (λ x. x.now) pivots.entry }
+    ensures { pivots.new ≡ table ncols (λ j. mark) onto pivots.old }
 {
     let mut col = 0;
     while col < ncols {

@@ -21,7 +21,7 @@ pub fn gather(
     out: &mut [u32],
 ) -> usize
     requires { Gathers part pivots.now dense.now limit from to out.old }
-    ensures { counted result out.new ≡ counted (length (gathered part pivots.now dense.now limit to)) (gathered part pivots.now dense.now limit to onto (λ x. x.now) out.entry) }
+    ensures { counted result out.new ≡ counted (length (gathered part pivots.now dense.now limit to)) (gathered part pivots.now dense.now limit to onto out.old) }
 {
     let mut len = 0;
     let mut col = from;
@@ -77,7 +77,7 @@ fn telling(part: Part, pivots: &[u32], dense: &[u32], col: usize) -> u32
 // Writes f times the entries at some columns, modulo p.
 pub fn scale(p: u32, f: u32, dense: &[u32], cols: &[u32], out: &mut [u32])
     requires { Scales p f dense.now cols.now out.old }
-    ensures { out.new ≡ scaled p f dense.now cols.now onto (λ x. x.now) out.entry }
+    ensures { out.new ≡ scaled p f dense.now cols.now onto out.old }
 {
     let mut k = 0;
     while k < cols.len() {

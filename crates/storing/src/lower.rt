@@ -67,7 +67,7 @@ fn write_part(
     out: &mut [u32],
 ) -> usize
     requires { Ends part pivots.now dense.now limit from head last out.old }
-    ensures { counted result out.new ≡ counted (length (part_of part pivots.now dense.now limit head last)) (part_of part pivots.now dense.now limit head last onto (λ x. x.now) out.entry) }
+    ensures { counted result out.new ≡ counted (length (part_of part pivots.now dense.now limit head last)) (part_of part pivots.now dense.now limit head last onto out.old) }
 {
     let len = gather(part, pivots, dense, limit, from, limit, out);
     if head < dense.len() {

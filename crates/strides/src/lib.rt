@@ -1,1 +1,2 @@
 // Laws only: each call that takes rows is a run of single steps.
+#![tactic(auto)]

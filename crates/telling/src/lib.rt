@@ -1,4 +1,6 @@
 // What rows are answered: one row's number, and what a call of many rows comes to.
+#![tactic(auto)]
+
 pub mod answers;
 
 use sparse::Refusal;
@@ -8,14 +10,14 @@ use state::Counts;
 pub const NONE: u32 = 4294967295;
 
 // How many rows were taken, and the counts after them.
-#[derive(Drop)]
+#[derive(Clone, Copy)]
 pub struct Run {
     pub taken: u32,
     pub counts: Counts,
 }
 
 // Why a call ended at a row, and the rows before it.
-#[derive(Drop)]
+#[derive(Clone, Copy)]
 pub struct Stop {
     pub why: Refusal,
     pub run: Run,
@@ -23,7 +25,7 @@ pub struct Stop {
 
 // What a call of many rows answers: all were taken; it ended at a None, which is counted; it ended for
 // want of room, and the rows before stay; or it was refused, and everything is as it came.
-#[derive(Drop)]
+#[derive(Clone, Copy)]
 pub enum Reduced {
     Taken(Run),
     Dependent(Run),

@@ -13,7 +13,7 @@ ghost use Rattle.text.specs.Writers.{Wrote, placed, pieces, row_pieces, link, li
 use sparse::{Refusal, Tested};
 
 // Entries that have the row in common, or the column.
-#[derive(Drop)]
+#[derive(Clone, Copy)]
 pub enum Line {
     Row(u32),
     Column(u32),

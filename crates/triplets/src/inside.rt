@@ -143,7 +143,7 @@ pub fn write_triplets(
 // Writes where each row starts, and where the last one ends.
 fn write_pointers(nrows: u32, rows: &[u32], row_ptrs: &mut [usize])
     requires { Pointable nrows rows.now row_ptrs.old }
-    ensures { row_ptrs.new ≡ table (nrows + 1) (start_of rows.now) onto (λ x. x.now) row_ptrs.entry }
+    ensures { row_ptrs.new ≡ table (nrows + 1) (start_of rows.now) onto row_ptrs.old }
 {
     row_ptrs[0] = 0;
     let mut start = 0;

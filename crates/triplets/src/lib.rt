@@ -1,4 +1,6 @@
 // Building a matrix from ordered triplets.
+#![tactic(auto)]
+
 ghost use Rattle.std.specs.Prelude.{◌≡◌};
 ghost use Rattle.sparse.specs.Lent.{lent, outcome};
 ghost use Rattle.triplets.specs.Triplets.{from_triplets};

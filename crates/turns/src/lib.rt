@@ -1,1 +1,2 @@
 // Laws only: the sign of a determinant by the order in which rows were accepted.
+#![tactic(auto)]

@@ -2,6 +2,8 @@
 //
 // A reducer is its record of counts and the lent lists u_cols, u_vals, u_ptrs, l_cols, l_vals, l_ptrs,
 // pivots. Position q puts a new column before old column q.
+#![tactic(auto)]
+
 mod places;
 
 pub use places::add_cols;
@@ -9,7 +11,7 @@ use sparse::Refusal;
 use state::Counts;
 
 // What inserting columns answers: the counts with the new column count, or why nothing moved.
-#[derive(Drop)]
+#[derive(Clone, Copy)]
 pub enum Widened {
     Made(Counts),
     Refused(Refusal),

@@ -1,5 +1,7 @@
 // The words of a line: numbers and lists. Each is put behind those before it in the memory of the
 // line, numbers and lists into one list of numbers, lists of pointers into another.
+#![tactic(auto)]
+
 ghost use Rattle.std.specs.Prelude.{◌≤◌};
 
 // Past every line: each reader after one that found no word finds none either.
@@ -21,7 +23,7 @@ const MOST_DIGITS: usize = 20;
 const LARGEST: u64 = 4294967295;
 
 // How far the reading has come: in the line, in the numbers and in the pointers.
-#[derive(Drop)]
+#[derive(Clone, Copy)]
 pub struct Place {
     pub at: usize,
     pub nums: usize,
@@ -29,14 +31,14 @@ pub struct Place {
 }
 
 // A number's value, and where its digits end.
-#[derive(Drop)]
+#[derive(Clone, Copy)]
 struct Parsed {
     value: u64,
     next: usize,
 }
 
 // Copies of a value: the value, how many, and where they end.
-#[derive(Drop)]
+#[derive(Clone, Copy)]
 struct Run {
     value: u64,
     many: u64,

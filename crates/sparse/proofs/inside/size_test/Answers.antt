@@ -4,32 +4,24 @@ use native.Mathlib.Omega.{arith}
 use borrow.Author.Tests.{lt-ltb, le-ltb}
 use Rattle.sparse.specs.Refusals.{refuse}
 use Rattle.sparse.specs.Tests.{size_test}
-use Rattle.sparse.proofs.inside.size_test.Statement.{statement}
-use Rattle.sparse.proofs.inside.size_test.Tie as tie
+use Rattle.sparse.proofs.inside.size_test.Goals as goal
 
-returns : tie.Need-returns
+pub returns-then-nrows-gt-MAX_SIDE : goal.returns-then-nrows-gt-MAX_SIDE
 unfolding size_test refuse
-returns c =
-    let a = c.before.args in
+returns-then-nrows-gt-MAX_SIDE c = let a = c.args in
     simp (lt-ltb 1024 a.nrows (omega arith))
 
-returns-2 : tie.Need-returns-2
+pub returns-then-ncols-gt-MAX_SIDE : goal.returns-then-ncols-gt-MAX_SIDE
 unfolding size_test refuse
-returns-2 c =
-    let a = c.before.before.args in
+returns-then-ncols-gt-MAX_SIDE c = let a = c.args in
     simp (le-ltb 1024 a.nrows (omega arith), lt-ltb 1024 a.ncols (omega arith))
 
-returns-3 : tie.Need-returns-3
+pub returns-then-entries-limit : goal.returns-then-entries-limit
 unfolding size_test refuse
-returns-3 c =
-    let a = c.before.before.before.args in
+returns-then-entries-limit c = let a = c.args in
     simp (le-ltb 1024 a.nrows (omega arith), le-ltb 1024 a.ncols (omega arith), lt-ltb a.limit a.entries (omega arith))
 
-returns-4 : tie.Need-returns-4
+pub returns : goal.returns
 unfolding size_test refuse
-returns-4 c =
-    let a = c.before.before.before.args in
+returns c = let a = c.args in
     simp (le-ltb 1024 a.nrows (omega arith), le-ltb 1024 a.ncols (omega arith), le-ltb a.limit a.entries (omega arith))
-
-pub size-test-spec : {M : Type 1} → statement M
-size-test-spec = tie.close (tie.spec returns returns-2 returns-3 returns-4)
