@@ -102,8 +102,13 @@ def blocks(text):
 def path_turned(text, names, lemma_place, at, renamed):
     """Paths of a record of steps: no `.before` on the way to a step, and the step's new name."""
 
+    # a name for a part of a record is no record of steps
+    parts_named = set(re.findall(rf"let ({W}) = ", text))
+
     def one(found):
         head, rest = found.group(1), found.group(2)
+        if head in parts_named:
+            return found.group(0)
         parts = rest.split(".")[1:]
         befores = 0
         while parts and parts[0] == "before":
@@ -142,6 +147,7 @@ def turn(path, names, crate, inner):
         text = text.replace(".requires.1", ".requires")
     head, uses, decls = blocks(text)
     lemma_place = {}
+    MACROS.clear()
     invariants, answers, said = [], [], []
     for comment, lines in decls:
         sig = re.match(rf"^((?:(?:abbrev|pub|unfoldable) )*)({W}) :\s*(.*)$", lines[0])
@@ -167,7 +173,7 @@ def turn(path, names, crate, inner):
                 continue
             turn_answer(name, new, unf, body, comment, names, lemma_place, answers)
             continue
-        turn_lemma(name, typ, unf, body, comment, names, lemma_place, answers)
+        turn_lemma(sig.group(1), name, typ, unf, body, comment, names, lemma_place, answers)
     return head, uses, invariants, answers, said
 
 
@@ -221,7 +227,56 @@ def whole_args(text, names, lemma_place, at, goal=None, params=("c",)):
     return re.sub(r"@@(\d+)@@", lambda m: ".before" * int(m.group(1)), text)
 
 
+def atom_at(text, i):
+    """Where the atom at i ends, and its text."""
+    while i < len(text) and text[i].isspace():
+        i += 1
+    if i < len(text) and text[i] in "({":
+        depth, k = 0, i
+        while k < len(text):
+            depth += (text[k] in "({") - (text[k] in ")}")
+            k += 1
+            if depth == 0:
+                break
+        rest = re.match(rf"(?:\.{W})+", text[k:])
+        k += rest.end() if rest else 0
+        return k, text[i:k]
+    found = re.match(rf"{W}(?:\.{W})*", text[i:])
+    return (i + found.end(), found.group(0)) if found else (i, "")
+
+
+MACROS = {}
+
+
+def substituted(body, table):
+    return re.sub(rf"(?<![^\s(){{}};,\[\]])({W})(?=[\s(){{}}.;,\[\]]|$)", lambda m: table.get(m.group(1), m.group(1)), body)
+
+
+def expanded(text, only):
+    """Each call of a lemma of `only` in place of the lemma's body."""
+    for _ in range(40):
+        names = "|".join(re.escape(k) for k in sorted(only, key=len, reverse=True) if k in MACROS)
+        if not names:
+            return text
+        found = re.search(rf"(?<![^\s(){{}};,\[\]])({names})(?=\s)", text)
+        if not found:
+            return text
+        record, params, body = MACROS[found.group(1)]
+        end, arg = atom_at(text, found.end())
+        base = re.match(rf"\(*({W})", arg)
+        table = {record: base.group(1) if base else arg}
+        for q in params:
+            end, it = atom_at(text, end)
+            table[q] = it
+        text = text[: found.start()] + "(" + substituted(body.strip(), table) + ")" + text[end:]
+    return text
+
+
 def turned_body(body, names, lemma_place, at, goal=None, params=("c",)):
+    if goal:
+        body = expanded(body, [k for k in MACROS if k not in lemma_place])
+    else:
+        body = expanded(body, [k for k in MACROS if lemma_place.get(k) != at])
     body = inline_aliases(body)
     body = path_turned(body, names, lemma_place, at, {})
     return whole_args(body, names, lemma_place, at, goal, params)
@@ -234,7 +289,7 @@ def turn_answer(name, new, unf, body, comment, names, lemma_place, out):
         return
     params, text = found.group(1).split(), found.group(2)
     plain = " ".join(text.split())
-    if plain in DROPPED:
+    if plain in DROPPED and not unf:
         return
     at = names.place_of_need.get(new)
     params = [p for p in params if p != "κs"]
@@ -243,18 +298,28 @@ def turn_answer(name, new, unf, body, comment, names, lemma_place, out):
     out.append((new, comment, lines, at))
 
 
-def turn_lemma(name, typ, unf, body, comment, names, lemma_place, out):
-    found = re.match(rf"(.*?)\(({W}) : {W}\.({W})((?:\s[^)]*)?)\)(.*)$", typ, re.S)
-    if not found:
-        out.append((name, comment, [f"{name} : {typ}"] + unf + [body], None))
+def turn_lemma(marks, name, typ, unf, body, comment, names, lemma_place, out):
+    eq = re.match(rf"{re.escape(name)}((?:\s+{W})*?)\s+=\s+(.*)$", body, re.S)
+    bare = re.match(rf"{W}\.({W})\s*→", typ)
+    if bare and eq:
+        # a shorthand over a record without a name: its text stands in its place
+        ps = eq.group(1).split()
+        MACROS[name] = (ps[0], ps[1:], inline_aliases(eq.group(2)))
+        return
+    found = re.match(rf"(.*?)\(({W}) : {W}\.({W})((?:\s(?:[^()]|\([^()]*\))*)?)\)(.*)$", typ, re.S)
+    if not found or found.group(1).strip() not in ("", "(t : ℕ)"):
+        out.append((name, comment, [f"{marks}{name} : {typ}"] + unf + [body], None))
         return
     place = names.places.get(norm(found.group(3)), found.group(3))
-    lemma_place[name] = place
     typ = f"{found.group(1)}({found.group(2)} : {place}){found.group(5)}"
     typ = turned_body(typ, names, lemma_place, place)
-    eq = re.match(rf"({re.escape(name)}(?:\s+{W})*?\s+=\s)(.*)$", body, re.S)
-    new_body = (eq.group(1) + turned_body(eq.group(2), names, lemma_place, place)) if eq else body
-    out.append((name, comment, [f"{name} : {typ}"] + unf + [new_body], place))
+    new = body
+    if eq:
+        ps = eq.group(1).split()
+        new = f"{name} {' '.join(ps)} = " + turned_body(eq.group(2), names, lemma_place, place)
+        MACROS[name] = (ps[0], ps[1:], inline_aliases(eq.group(2)))
+    lemma_place[name] = place
+    out.append((name, comment, [f"{marks}{name} : {typ}"] + unf + [new], place))
 
 
 def imports(uses, texts, dropped=("Statement", "Tie")):
@@ -275,7 +340,7 @@ def imports(uses, texts, dropped=("Statement", "Tie")):
             if "◌" in short:
                 if short in tokens or all(o in tokens for o in op):
                     keep.append(it)
-            elif short in tokens:
+            elif short in tokens or (short == "[]" and "[]" in body):
                 keep.append(it)
         if keep:
             out.append(f"use {path}.{{{', '.join(keep)}}}")

@@ -15,7 +15,7 @@ use Rattle.triplets.specs.Asks.{Parts, Rising}
 use Rattle.sparse.specs.Matrix.{matrix, part, row}
 use Rattle.sparse.specs.Refusals.{refuse, ◌else◌}
 use Rattle.sparse.specs.Tests.{shape_test, column_test, columns_test, row_test, rows_test, value_test, values_test, rows_values_test, matrix_test}
-use Rattle.triplets.specs.Triplets.{triplet, triplets, at, place_test, places_test, order_test, start_of}
+use Rattle.triplets.specs.Triplets.{triplets, at, place_test, places_test, order_test, start_of}
 use Rattle.sparse.specs.declared.Refusal.TheVariants.{Column, Value, Outside}
 use Rattle.sparse.specs.declared.Tested.TheVariants.{Good}
 use Rattle.sparse.specs.declared.inside.Clause.TheVariants.{Residue}

@@ -1,17 +1,16 @@
 -- The rows of a clean matrix are clean, and clean matrices of equal values are equal.
 -- Assumes nothing.
-use mathlib.Core.Path.{◌≡◌, refl, sym, ap, ap₂, ◌∙◌}
-use mathlib.Core.List.{List}
+use mathlib.Core.Path.{◌≡◌, sym, ap, ap₂, ◌∙◌}
 use Prim.Native.Nat.{ℕ, ◌+◌, ◌-◌, ◌≤◌, ◌<◌}
 use native.Mathlib.Omega.{arith}
 use lib.Dec.{lit≤}
 use lib.ListN.{length, get_or}
 use Rattle.lists.specs.Table.{table}
 use Rattle.lists.proofs.Tables.{table_ext}
-use Rattle.sparse.specs.Matrix.{Matrix, part, row, value_in, value_at}
-use Rattle.sparse.specs.Refusals.{number, lowest}
-use Rattle.sparse.specs.Rows.{Entry, entries, rows_of, compressed}
-use Rattle.sparse.specs.Tests.{rows_test, well_formed, clean}
+use Rattle.sparse.specs.Matrix.{Matrix, part, row, value_at}
+use Rattle.sparse.specs.Refusals.{number}
+use Rattle.sparse.specs.Rows.{entries, rows_of, compressed}
+use Rattle.sparse.specs.Tests.{well_formed, clean}
 use Rattle.sparse.specs.declared.Refusal.TheVariants.{Zero}
 use Rattle.sparse.specs.declared.Tested.TheVariants.{Good}
 use Rattle.sparse.proofs.Cuts.{Laid, formed_laid, formed_rows}
@@ -19,7 +18,7 @@ use Rattle.sparse.proofs.Firsts.{lowest_good}
 use Rattle.meaning.proofs.Numbers.{no_row, clean_none}
 use Rattle.meaning.proofs.Parts.{length_part, get_d_part}
 use Rattle.meaning.proofs.RowLists.{compressed_rows, part_entries}
-use Rattle.meaning.proofs.Values.{Climbs, no_bad_climbs, Clean, clean_unique}
+use Rattle.meaning.proofs.Values.{no_bad_climbs, Clean, clean_unique}
 
 module _ (limit p : ℕ) (m : Matrix) (good : clean limit p m ≡ Good) where
   formed : well_formed limit p m ≡ Good

@@ -2,7 +2,7 @@
 -- Assumes nothing.
 use mathlib.Core.Path.{◌≡◌, refl, sym, ap, subst, ◌∙◌}
 use mathlib.Core.Logic.{◌↔◌, ◌⊎◌, inl, inr, ⊎_elim}
-use mathlib.Core.Bool.{Bool, true, false, not, ◌&&◌, ◌||◌}
+use mathlib.Core.Bool.{Bool, not, ◌&&◌, ◌||◌}
 use mathlib.Core.List.{List}
 use Prim.Native.Nat.{ℕ, suc, ◌+◌, ◌-◌, ◌≤◌, ◌<◌}
 use native.Mathlib.Decide.{dec_lt}
@@ -12,7 +12,7 @@ use lib.ListN.{length, get_or}
 use Rattle.lists.proofs.Decides.{Decides, decides_as, decides_not, decides_or, decides_and, decides_lt, decides_le, decides_eq}
 use Rattle.field.specs.Prime.{is_modulus}
 use Rattle.field.proofs.Primes.{decides_modulus}
-use Rattle.meaning.specs.Clauses.{Some, BadPointer, BadColumn, BadRow, FirstBad, Stored, Applies}
+use Rattle.meaning.specs.Clauses.{BadPointer, BadColumn, BadRow, FirstBad, Stored, Applies}
 use Rattle.sparse.specs.Matrix.{Matrix, part, row}
 use Rattle.sparse.specs.Refusals.{number, refuse, lowest}
 use Rattle.sparse.specs.Tests.{modulus_test, size_test, shape_test, column_test, columns_test, row_test, rows_test, value_test, values_test, rows_values_test, matrix_test, well_formed, clean}

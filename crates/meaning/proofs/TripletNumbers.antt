@@ -1,21 +1,21 @@
 -- `from_triplets` gives each number exactly when its clause holds and no preferred one does.
 -- Assumes nothing.
-use mathlib.Core.Path.{◌≡◌, refl, sym, ap, subst, ◌∙◌}
+use mathlib.Core.Path.{◌≡◌, refl, subst}
 use mathlib.Core.Logic.{◌↔◌, ◌⊎◌, ⊎_elim}
-use mathlib.Core.Bool.{Bool, not, ◌&&◌, ◌||◌}
+use mathlib.Core.Bool.{not, ◌&&◌, ◌||◌}
 use mathlib.Core.List.{List, [], ◌∷◌}
-use Prim.Native.Nat.{ℕ, suc, ◌+◌, ◌-◌, ◌≤◌, ◌<◌}
+use Prim.Native.Nat.{ℕ, ◌+◌, ◌-◌, ◌≤◌, ◌<◌}
 use native.Mathlib.Omega.{arith}
-use lib.Dec.{leb, ltb, eqb, lit<, lit≤}
-use lib.ListN.{length, get_or}
+use lib.Dec.{leb, ltb, lit<, lit≤}
+use lib.ListN.{length}
 use Rattle.lists.proofs.Decides.{Decides, decides_not, decides_or, decides_and, decides_lt, decides_le, decides_eq}
 use Rattle.field.specs.Prime.{is_modulus}
 use Rattle.field.proofs.Primes.{decides_modulus}
-use Rattle.meaning.specs.Clauses.{Some, Stored}
+use Rattle.meaning.specs.Clauses.{Stored}
 use Rattle.sparse.specs.Lent.{Lent, room_test, Outcome, unless}
-use Rattle.sparse.specs.Refusals.{number, refuse, lowest}
-use Rattle.sparse.specs.Tests.{modulus_test, size_test, value_test, values_test}
-use Rattle.meaning.specs.TripletClauses.{Before, SomeOutside, SomeFall, NoRoom, TripletsApply}
+use Rattle.sparse.specs.Refusals.{number, lowest}
+use Rattle.sparse.specs.Tests.{modulus_test, size_test, values_test}
+use Rattle.meaning.specs.TripletClauses.{Before, SomeOutside, SomeFall, TripletsApply}
 use Rattle.triplets.specs.Triplets.{Triplet, triplets, at, before, parts_test, place_test, places_test, step_test, order_test, triplets_test, from_triplets}
 use Rattle.sparse.specs.declared.Built.{Built}
 use Rattle.sparse.specs.declared.Built.TheVariants.{Made, Refused as Unmade}

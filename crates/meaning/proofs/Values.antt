@@ -1,7 +1,7 @@
 -- What lies at each place of a row, and that clean rows of equal meaning are equal.
 -- Assumes nothing.
 use mathlib.Core.Path.{◌≡◌, refl, sym, ap, ap₂, ◌∙◌}
-use mathlib.Core.Logic.{◌⊎◌, inl, inr}
+use mathlib.Core.Logic.{inl, inr}
 use mathlib.Core.Bool.{cond}
 use mathlib.Core.List.{List, [], ◌∷◌}
 use Prim.Native.Nat.{ℕ, zero, suc, ◌+◌, ◌-◌, ◌≤◌, ◌<◌}
@@ -11,7 +11,6 @@ use native.Mathlib.Omega.{arith}
 use borrow.Author.Tests.{eq-eqb, ne_eqb}
 use lib.Dec.{eqb}
 use lib.ListN.{length, get_or}
-use Rattle.lists.specs.Sum.{Σ}
 use Rattle.lists.proofs.Sums.{sum_one, sum-zero, sum_first}
 use Rattle.sparse.specs.Matrix.{value_in}
 use Rattle.sparse.specs.Tests.{columns_test}

@@ -13,7 +13,7 @@ use lib.ListN.{length, get_or}
 use borrow.Author.Tests.{ltb-true, eqb-true, lt-ltb, not-false}
 use Rattle.triplets.specs.Asks.{Parts, Rising}
 use Rattle.sparse.specs.Refusals.{refuse}
-use Rattle.triplets.specs.Triplets.{triplet, triplets, at, before, step_test, order_test}
+use Rattle.triplets.specs.Triplets.{triplets, before, step_test, order_test}
 use Rattle.sparse.specs.declared.Refusal.TheVariants.{Order}
 use Rattle.sparse.specs.declared.Tested.TheVariants.{Good}
 use Rattle.sparse.proofs.Firsts.{refuse_good, each_good}
