@@ -18,6 +18,7 @@ DROPPED = {"search rules", "omega arith"}
 
 def norm(name):
     name = re.sub(r"^(overflow|nonzero)[-_]", "", name)
+    name = re.sub(r"^slice[-_]bounds-", "part-", name)
     name = name.replace("_", "-")
     return re.sub(r"-([0-9]+)$", r"\1", re.sub(r"-+", "-", name))
 
@@ -43,6 +44,7 @@ class Names:
             for field, step, path in arm[2] if arm else []:
                 if field in ("is", "ensures") or not field.endswith("-own"):
                     self.arms.setdefault(norm(step), {}).setdefault(tuple(path), f"{arm[0]}.{field}")
+        self.params = of["params"]
         self.loops = of["loops"]
         self.changed = of["changed"]
         self.settled = of["settled"]
@@ -82,7 +84,7 @@ def blocks(text):
             continue
         elif line.startswith("--"):
             pending.append(line)
-        elif line[0] in " \t":
+        elif line[0] in " \t)":
             here.append(line)
         else:
             word = re.match(rf"(?:(?:abbrev|pub|unfoldable) )*({W}(?:\.{W})*)", line)
@@ -104,10 +106,15 @@ def path_turned(text, names, lemma_place, at, renamed):
 
     # a name for a part of a record is no record of steps
     parts_named = set(re.findall(rf"let ({W}) = ", text))
+    args_named = set(re.findall(rf"let ({W}) = (?:{W}\.)*{W}\.args in", text)) | set(re.findall(rf"let ({W}) = (?:{W}\.)+args in", text))
 
     def one(found):
         head, rest = found.group(1), found.group(2)
         if head in parts_named:
+            if head in args_named:
+                parts = rest.split(".")
+                parts[1] = parts[1].replace("-", "_")
+                return head + ".".join(parts)
             return found.group(0)
         parts = rest.split(".")[1:]
         befores = 0
@@ -120,6 +127,10 @@ def path_turned(text, names, lemma_place, at, renamed):
         for path, to in names.arms.get(norm(parts[0]), {}).items():
             if tuple(parts[1 : 1 + len(path)]) == path and path != ("ensures",):
                 return ".".join([head, to] + parts[1 + len(path) :])
+        loops = [norm(l[0][0]) for l in names.loops]
+        if len(parts) > 1 and (parts[0] in ("args", "ranges", "initial") or norm(parts[0]) in loops):
+            if parts[1] not in ("invariant",) and not parts[1].startswith("known"):
+                parts[1] = parts[1].replace("-", "_")
         if step:
             parts[0] = step
         return head + "." + ".".join(parts)
@@ -155,11 +166,23 @@ def turn(path, names, crate, inner):
             said.append("no signature: " + lines[0])
             continue
         name = sig.group(2)
-        body_at = next((k for k, l in enumerate(lines[1:], 1) if not l.startswith((" ", "\t", "unfolding"))), None)
+        body_at = next((k for k, l in enumerate(lines[1:], 1) if not l.startswith((" ", "\t", ")", "unfolding"))), None)
         typ = " ".join([sig.group(3)] + [l.strip() for l in lines[1 : body_at]  if not l.startswith("unfolding")]) if body_at else sig.group(3)
         unf = [l for l in lines[1:body_at] if l.startswith("unfolding")] if body_at else []
         body = "\n".join(lines[body_at:]) if body_at else ""
         if name.endswith(("-spec", "_spec")):
+            continue
+        if inner.split("/")[-1].startswith("+") and re.search(r"-(at|below)$", name) and "→ In " in typ:
+            continue
+        if name.startswith("μ-"):
+            # the measure of a recursion: a place among the arguments
+            it = re.search(r"= a((?:\.1)*)(\.0)?\s*$", body)
+            mine = [v for k, v in names.params.items() if norm(k.rsplit("::", 1)[-1]) == norm(name[2:])]
+            if it and mine:
+                of = mine[0][it.group(1).count(".1")]
+                invariants.append(("decreases", mine and inner.split("/")[-1][1:], comment, f"l.{of}", ""))
+            else:
+                said.append("measure: " + body)
             continue
         if name.startswith(("invariant-", "invariant_", "decreases-", "decreases_")) or re.match(r"μ-", name):
             turn_invariant(name, typ, body, comment, names, invariants, said)

@@ -1,6 +1,6 @@
 -- What inserting columns does: old columns keep their order and their values, the new ones are exactly those that no old
 -- column moves to and hold 0, and a well formed matrix stays well formed. Assumes nothing.
-use mathlib.Core.Path.{◌≡◌, refl, sym, ap, ap₂, ◌∙◌}
+use mathlib.Core.Path.{◌≡◌, refl, sym, ap, ◌∙◌}
 use mathlib.Core.Logic.{◌⊎◌, inl, inr}
 use mathlib.Core.Bool.{cond, ◌||◌}
 use mathlib.Core.List.{List, [], ◌∷◌, map}
@@ -29,7 +29,7 @@ use Rattle.columns.specs.Asks.{NotFalling}
 use Rattle.columns.specs.Positions.{in_order, position_test, positions_test, moved, add_cols_test, add_cols}
 use Rattle.columns.specs.declared.Widened.TheVariants.{Columns}
 use Rattle.columns.proofs.Above.{count_front, count_back, count_wider}
-use Rattle.columns.proofs.Passed.{Insertable, insertable}
+use Rattle.columns.proofs.Passed.{Insertable}
 
 -- what is made of each element, at a place
 pub get_d_map : (f : ℕ → ℕ) (xs : List ℕ) (k : ℕ) → k < length xs → get_or (map f xs) k 0 ≡ f (get_or xs k 0)

@@ -1,21 +1,19 @@
 -- What good tests leave for inserting columns: few new ones, positions that don't fall, columns within the limit.
 -- Assumes nothing.
-use mathlib.Core.Path.{◌≡◌, refl, sym, ◌∙◌}
-use mathlib.Core.Bool.{not, ◌&&◌, ◌||◌}
+use mathlib.Core.Path.{◌≡◌}
+use mathlib.Core.Bool.{not, ◌&&◌}
 use mathlib.Core.List.{List}
 use Prim.Native.Nat.{ℕ, zero, suc, ◌+◌, ◌-◌, ◌≤◌, ◌<◌}
-use native.Mathlib.Nat.{not-suc-le-zero}
 use native.Mathlib.Decide.{dec_lt}
 use native.Mathlib.Omega.{arith}
 use lib.Dec.{ltb}
 use lib.ListN.{length, get_or}
 use borrow.Author.Tests.{lt-ltb, ltb-true, ltb-false, not-false}
 use Rattle.sparse.specs.Matrix.{Matrix}
-use Rattle.sparse.specs.Refusals.{refuse}
 use Rattle.sparse.specs.Tests.{modulus_test, size_test, shape_test, rows_test, rows_values_test, matrix_test}
 use Rattle.sparse.specs.declared.Tested.TheVariants.{Good}
 use Rattle.sparse.specs.declared.inside.Clause.TheVariants.{Residue}
-use Rattle.sparse.proofs.Cuts.{Laid, laid}
+use Rattle.sparse.proofs.Cuts.{laid}
 use Rattle.sparse.proofs.Firsts.{refuse_good, neither, lowest_good, each_good}
 use Rattle.meaning.proofs.RowColumns.{column_low}
 use Rattle.columns.specs.Asks.{NotFalling, Movable}

@@ -1,5 +1,5 @@
 -- What the functions of this crate ask of their arguments.
-use Rattle.std.specs.Prelude.{ℕ, ◌+◌, ◌≤◌, ◌<◌, List, length, get_or}
+use Rattle.std.specs.Prelude.{ℕ, ◌≤◌, ◌<◌, List, length, get_or}
 
 -- positions that don't fall; equal ones may stand side by side
 pub record NotFalling (xs : List ℕ) : Type 0 where

@@ -4,7 +4,7 @@ use mathlib.Core.Path.{◌≡◌, refl, sym, ap, ◌∙◌}
 use mathlib.Core.Bool.{Bool, true, false, not, ◌&&◌, cond, true≢false}
 use mathlib.Core.List.{List}
 use mathlib.Core.Logic.{◌⊎◌, ⊎_elim}
-use Prim.Native.Nat.{ℕ, ◌+◌, ◌≤◌, ◌<◌}
+use Prim.Native.Nat.{ℕ, ◌+◌, ◌<◌}
 use native.Mathlib.Decide.{ℕ_discrete}
 use native.Mathlib.Omega.{arith}
 use lib.Dec.{eqb}
@@ -19,7 +19,7 @@ use Rattle.sparse.proofs.Cuts.{Laid, laid, few_rows}
 use Rattle.sparse.proofs.Firsts.{lowest_good}
 use Rattle.meaning.proofs.Parts.{length_part}
 use Rattle.meaning.proofs.RowColumns.{climbs_good, row_climbs}
-use Rattle.meaning.proofs.Values.{Climbs, columns_climb, value_there, value_elsewhere}
+use Rattle.meaning.proofs.Values.{Climbs, value_there, value_elsewhere}
 use Rattle.readers.specs.Asks.{Readable, Climbing, SquareRow, Square}
 
 -- a stored value that is not 0, off column i

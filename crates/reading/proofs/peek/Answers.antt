@@ -1,0 +1,138 @@
+-- `peek` meets its contract: the reader is taken apart, and `step_at` is called on its columns, its values and its place.
+-- What the reader owns is had twice: one copy is kept whole for the exit, the other is what the callee asks, as it takes the fields in their order.
+-- Assumes nothing.
+use mathlib.Core.Path.{◌≡◌, refl}
+use mathlib.Core.List.{[], ◌∷◌}
+use lib.Dec.{T as Holds}
+use lib.ListN.{length}
+use seplogic.Ra.Ura.{Ura}
+use mir.Syntax.{named, w64}
+use mir.Val.{Val, WT, has_ty, vint}
+use base.Logic.{SProp, ent, sep, emp, via, fst∗, snd∗, ex_e, id⊢}
+use base.Fml.{Lft, Share, Fml, ftrue, flft}
+use prog.Memory.{Memory}
+use prog.Routine.{Routine}
+use prog.Wp.{Calls, Loops, WpFn, Tables}
+use types.Logic.{Logic, sem}
+use contract.Lifetimes.{Lfts}
+use contract.Monad.{Fun, fact}
+use types.Kit.{‵, raw, ◌⊛◌, given, ⋆, some, later, ◌$◌, ◌∵◌, !, qed, by, move, drop, use1, use2, split, join, learn, pick, fsplit, fjoin, suffices, frame, await, done}
+use types.Part.{whole, sub, look_in}
+use types.Run.{look, init, forget, stop, fld, from, load, of_opd, and_then, no_more, assigns, land, returns, enter, alloc1, alloc0, params1, pass1, pass0, free1, free0}
+use sound.WpLaws.{FmC, fm_of, WpFn-mono}
+use denote.RattleType.{RattleType, owns}
+use denote.Laws.{Is, shows}
+use denote.Builtin.{u32, usize}
+use denote.Signature.{named_lft}
+use denote.Slice.{slice_val, ShrSlice}
+use denote.Steps.{peeks, heard, nothing}
+use denote.Struct.Declared.{Declared}
+use denote.Struct.Rest.{all_own, own_open}
+use denote.Struct.Values.{Values}
+use denote.Triple.Call.{calls_at}
+use denote.Triple.Entry.{Vals, on_entry}
+use denote.Triple.Spec.{Meets, triple_of}
+use denote.Triple.Walked.{says, Stays, stay_none, walk_of, Goes-none, Walks, ends_at, walked, walk_Meets}
+use denote.Exit.{yes}
+use denote.Triple.Clauses.{ensured, lasts}
+use Rattle.reading.specs.Read.{step_at}
+use Rattle.reading.specs.declared.Reader.{Reader}
+use Rattle.reading.specs.declared.Step.{Step}
+use Rattle.reading.proofs.step_at.Symbol.{name as #reading·step-at}
+use Rattle.reading.proofs.peek.Goals as goal
+
+-- the struct's type, over the signature's lifetimes
+abbrev B : Lfts 1 → RattleType
+B κs = T.the_row (named_lft 1 0 tt κs)
+
+abbrev stayed : Stays (peek.ended).signature.params (peek.ended).kept
+stayed = (stay_none B yes, tt)
+
+module _ {M : Type 1} {𝓤 : Ura M} (𝓛 : Logic 𝓤) (mem : Memory → SProp 𝓤) (run : Routine → Fun 𝓤) where
+  -- the contract that the proof cites
+  abbrev StepAt : Contract 𝓤
+  StepAt = triple_of 𝓛 step.signature (step.spec 𝓛 mem run)
+
+module _ {M : Type 1} {𝓤 : Ura M} (𝓛 : Logic 𝓤) (mem : Memory → SProp 𝓤) (run : Routine → Fun 𝓤) (κ : Lft) (q : Share) (d : Reader) where
+  open 𝓛 use {H}
+
+  abbrev mach : Val
+  mach = T'.lowered d
+
+  abbrev found : Step
+  found = step_at d.cols.now d.vals.now d.place
+
+  abbrev Post : Val → SProp 𝓤
+  Post = (walk_of 𝓛 peek.ended stayed (peek.clauses 𝓛 mem run)).post (((κ, tt), (q, tt), tt, (d, tt), (mach ∷ [], tt)), tt)
+
+  abbrev Own : Fml
+  Own = (B (κ, tt)).own_val d (mach ∷ [])
+
+  -- the struct's type and laws, and d's fields' values
+  abbrev D : Declared
+  D = T.the_type (named_lft 1 0 tt (κ, tt))
+
+  abbrev L : LL.Laws D
+  L = T'.the_laws (named_lft 1 0 tt (κ, tt))
+
+  abbrev vd : Values D.parts
+  vd = (d.cols, (d.vals, (d.place, tt)))
+
+  -- what the callee is passed
+  abbrev passed : Vals step.signature (κ, tt)
+  passed = (slice_val d.cols.ref_ptr (length d.cols.now) ∷ [], (slice_val d.vals.ref_ptr (length d.vals.now) ∷ [], (vint w64 d.place ∷ [], tt)))
+
+  abbrev to : (StepAt 𝓛 mem run).Ghost
+  to = (((κ, tt), (q, tt), tt, vd, passed), tt)
+
+  asked : ent 𝓤 (on_entry 𝓛 step.signature (κ, tt) (q, tt) vd passed) ((StepAt 𝓛 mem run).pre to)
+  asked = qed 𝓛 ((‵ (flft κ q) ⊛ ‵ ftrue) ∷ ‵ (owns (ShrSlice (named 0) κ u32 ∷ ShrSlice (named 0) κ u32 ∷ usize ∷ []) vd passed) ∷ []) ∵ join ! $ frame ! $ done !
+
+  -- what the struct owns gives what the callee asks, and is kept
+  apart : ent 𝓤 (on_entry 𝓛 peek.signature (κ, tt) (q, tt) (d, tt) (mach ∷ [], tt)) (sep 𝓤 ((StepAt 𝓛 mem run).pre to) (sem 𝓛 Own))
+  apart =
+      qed 𝓛 ((‵ (flft κ q) ⊛ ‵ ftrue) ∷ ‵ (owns (B (κ, tt) ∷ []) (d, tt) (mach ∷ [], tt)) ∷ []) ∵
+      move ! (1 ∷ []) $ fsplit ! $ move ! (1 ∷ []) $ drop ! $ use1 𝓛 (‵ Own ⊛ ‵ Own) ((LL.copy D (T'.the_copy (named_lft 1 0 tt (κ, tt))) 𝓛).twice d (mach ∷ [])) $ split ! $
+      use1 𝓛 (given (mach ∷ [] ≡ mach ∷ []) (‵ (all_own D.parts L vd))) (own_open 𝓛 D L vd mach) $ learn ! (λ _.
+      -- [what the fields own together; what the reader owns; the token]
+      move ! (2 ∷ 0 ∷ []) $ use2 𝓛 (raw ((StepAt 𝓛 mem run).pre to)) asked $ frame ! $ done !)
+
+  -- of the callee's `ensured`, the clause alone: it has no `&mut`, so what is said of last values is dropped
+  said : (r : Step) → ent 𝓤 (ensured 𝓛 step.ended (step.clauses 𝓛 mem run) (κ, tt) vd tt r) (fact 𝓤 (r ≡ found))
+  said r = ex_e 𝓤 _ (λ ws. snd∗ 𝓤 (sem 𝓛 (lasts step.ended (κ, tt) vd ws)) (fact 𝓤 (r ≡ found)))
+
+  exits : (r : Step) (u : Val) → r ≡ found → ent 𝓤 (⋆ 𝓛 (‵ ((S.the_row).own_val r (u ∷ [])) ∷ (‵ (flft κ q) ⊛ ‵ ftrue) ∷ ‵ Own ∷ [])) (Post u)
+  exits r u e =
+      qed 𝓛 (‵ ((S.the_row).own_val r (u ∷ [])) ∷ (‵ (flft κ q) ⊛ ‵ ftrue) ∷ ‵ Own ∷ []) ∵
+      suffices ! _ (ends_at 𝓛 peek.ended stayed (peek.clauses 𝓛 mem run) (((κ, tt), (q, tt), tt, (d, tt), (mach ∷ [], tt)), tt) u r (tt, tt) (tt, tt)) $ says ! e $
+      move ! (1 ∷ []) $ frame ! $ nothing ! $ move ! (2 ∷ 0 ∷ []) $ fjoin ! $ frame ! $ done !
+
+  module _ (C : Calls 𝓤 H) (Λ : Loops 𝓤 H) (fm : FmC 𝓤 H 𝓛.laws C) (known : Triple 𝓤 (C #reading·step-at) (StepAt 𝓛 mem run)) where
+    walk : Holds (has_ty (T'.mir (named 0)) mach) × WT mach → ent 𝓤 (on_entry 𝓛 peek.signature (κ, tt) (q, tt) (d, tt) (mach ∷ [], tt)) (WpFn 𝓤 H C Λ code.function (mach ∷ []) Post)
+    walk wt =
+        qed 𝓛 (raw (on_entry 𝓛 peek.signature (κ, tt) (q, tt) (d, tt) (mach ∷ [], tt)) ∷ []) ∵ enter ! C Λ code.function (mach ∷ []) _ $
+        alloc1 ! (λ l₀. alloc1 ! (λ l₁. alloc1 ! (λ l₂. alloc1 ! (λ l₃. alloc1 ! (λ l₄. alloc0 ! $ params1 ! $ pass1 ! (init ! 6 refl wt) $ pass0 ! $
+        assigns ! (of_opd ! (load ! (from ! (fld ! refl (stop !))) (look_in ! 6 (sub ! 0 refl (whole !))))) (from ! (stop !)) (init ! 4 refl (tt, wt.1.0)) $
+        assigns ! (of_opd ! (load ! (from ! (fld ! refl (stop !))) (look_in ! 6 (sub ! 1 refl (whole !))))) (from ! (stop !)) (init ! 2 refl (tt, wt.1.1.0)) $
+        assigns ! (of_opd ! (load ! (from ! (fld ! refl (stop !))) (look_in ! 6 (sub ! 2 refl (whole !))))) (from ! (stop !)) (init ! 0 refl (tt, wt.1.1.1.0)) $
+        move ! (10 ∷ []) $ use1 𝓛 (raw ((StepAt 𝓛 mem run).pre to) ⊛ ‵ Own) apart $ split ! $
+        calls_at ! fm (StepAt 𝓛 mem run) known to (and_then ! (load ! (from ! (stop !)) (look ! 6 refl)) (and_then ! (load ! (from ! (stop !)) (look ! 4 refl)) (and_then ! (load ! (from ! (stop !)) (look ! 2 refl)) (no_more !)))) (λ u.
+        use1 𝓛 (later (some (λ (r : Step). ((‵ (flft κ q) ⊛ ‵ ftrue) ⊛ ‵ ((S.the_row).own_val r (u ∷ []))) ⊛ raw (ensured 𝓛 step.ended (step.clauses 𝓛 mem run) (κ, tt) vd tt r)))) (id⊢ 𝓤 _) $ await ! tt $ pick ! (λ r.
+        split ! $ move ! (1 ∷ []) $ use1 𝓛 (raw (fact 𝓤 (r ≡ found))) (said r) $ heard ! (r ≡ found) (λ e. split ! $ move ! (1 ∷ []) $
+        -- [the result; the token; what the reader owns; _4; …; _3; …; _2; …; _1; …; room for _0; …]
+        peeks ! S.the_row (Is S.the_row) (shows 𝓛 S.the_row) r (u ∷ []) (λ is.
+        land ! (from ! (stop !)) (init ! 11 refl ((LL.lawful S.the_type S'.the_laws 𝓛).typed r _ is).0) $
+        returns ! (look ! 11 refl) $ forget ! 3 refl $ forget ! 5 refl $ forget ! 7 refl $ forget ! 9 refl $ forget ! 11 refl $
+        move ! (11 ∷ 12 ∷ []) $ free1 ! $ move ! (9 ∷ 10 ∷ []) $ free1 ! $ move ! (7 ∷ 8 ∷ []) $ free1 ! $ move ! (5 ∷ 6 ∷ []) $ free1 ! $ move ! (3 ∷ 4 ∷ []) $ free1 ! $ free0 ! $ by ! (exits r u e))))))))))
+
+module _ {M : Type 1} {𝓤 : Ura M} (𝓛 : Logic 𝓤) (mem : Memory → SProp 𝓤) (run : Routine → Fun 𝓤) where
+  open 𝓛 use {H}
+
+  peek_walks : (C : Calls 𝓤 H) (Λ : Loops 𝓤 H) → FmC 𝓤 H 𝓛.laws C → Triple 𝓤 (C #reading·step-at) (StepAt 𝓛 mem run)
+      → Walks 𝓛 peek.ended stayed (WpFn 𝓤 H C Λ code.function) (peek.clauses 𝓛 mem run)
+  peek_walks C Λ fm known = walked 𝓛 peek.ended stayed (peek.clauses 𝓛 mem run) (WpFn 𝓤 H C Λ code.function) (λ κs. (LL.vals (T.the_type (named_lft 1 0 tt κs)) (T'.the_laws (named_lft 1 0 tt κs)), tt)) (λ κs. (LL.tells (T.the_type (named_lft 1 0 tt κs)) (T'.the_laws (named_lft 1 0 tt κs)), tt))
+      (λ κs qs bounds a g are. via 𝓤 _ (fst∗ 𝓤 _ (emp 𝓤)) (walk 𝓛 mem run κs.0 qs.0 a.0 C Λ fm known ((LL.lawful (T.the_type (named_lft 1 0 tt κs)) (T'.the_laws (named_lft 1 0 tt κs)) 𝓛).typed a.0 _ are.0).0))
+
+peek-meets : {M : Type 1} {𝓤 : Ura M} (𝓛 : Logic 𝓤) (mem : Memory → SProp 𝓤) (run : Routine → Fun 𝓤) (𝓣 : Tables 𝓤 𝓛.H) → Triple 𝓤 (𝓣.C #reading·step-at) (StepAt 𝓛 mem run) → Meets 𝓛 peek.signature (WpFn 𝓤 𝓛.H 𝓣.C 𝓣.Λ code.function) (peek.spec 𝓛 mem run)
+peek-meets {𝓤 = 𝓤} 𝓛 mem run 𝓣 Known-step = walk_Meets 𝓛 peek.ended stayed (Goes-none 𝓛 1 B yes (λ κs x f. refl), tt) (peek.clauses 𝓛 mem run) (WpFn 𝓤 𝓛.H 𝓣.C 𝓣.Λ code.function) (WpFn-mono 𝓤 𝓛.H 𝓛.laws 𝓣 code.function)
+    (peek_walks 𝓛 mem run 𝓣.C 𝓣.Λ (fm_of 𝓤 𝓛.H 𝓛.laws 𝓣) Known-step)
