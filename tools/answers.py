@@ -123,6 +123,7 @@ def path_turned(text, names, lemma_place, at, renamed):
             befores += 1
         if not parts:
             return f"{head}@@{befores}@@"
+        parts[0] = re.sub(r"_lem$", "", parts[0])
         step = names.steps.get(norm(parts[0])) or names.steps.get(re.sub(r"-[0-9]+$", "", norm(parts[0])))
         for path, to in names.arms.get(norm(parts[0]), {}).items():
             if tuple(parts[1 : 1 + len(path)]) == path and path != ("ensures",):
@@ -269,6 +270,7 @@ def atom_at(text, i):
 
 
 MACROS = {}
+UNFOLDED = set()
 
 
 def substituted(body, table):
@@ -284,7 +286,8 @@ def expanded(text, only):
         found = re.search(rf"(?<![^\s(){{}};,\[\]])({names})(?=\s)", text)
         if not found:
             return text
-        record, params, body = MACROS[found.group(1)]
+        record, params, body, opens = MACROS[found.group(1)]
+        UNFOLDED.update(opens)
         end, arg = atom_at(text, found.end())
         base = re.match(rf"\(*({W})", arg)
         table = {record: base.group(1) if base else arg}
@@ -293,6 +296,15 @@ def expanded(text, only):
             table[q] = it
         text = text[: found.start()] + "(" + substituted(body.strip(), table) + ")" + text[end:]
     return text
+
+
+def opened(unf):
+    return [w for l in unf for w in l.split()[1:]]
+
+
+def with_opened(unf):
+    more = [w for w in sorted(UNFOLDED) if w not in opened(unf)]
+    return ["unfolding " + " ".join(opened(unf) + more)] if more or unf else []
 
 
 def turned_body(body, names, lemma_place, at, goal=None, params=("c",)):
@@ -316,7 +328,9 @@ def turn_answer(name, new, unf, body, comment, names, lemma_place, out):
         return
     at = names.place_of_need.get(new)
     params = [p for p in params if p != "κs"]
+    UNFOLDED.clear()
     text = turned_body(text, names, lemma_place, at, new, params)
+    unf = with_opened(unf)
     lines = [f"pub {new} : goal.{new}"] + unf + [f"{new} {' '.join(params)} =" + ("\n" if text.startswith("\n") else " ") + text.lstrip("\n")]
     out.append((new, comment, lines, at))
 
@@ -327,7 +341,7 @@ def turn_lemma(marks, name, typ, unf, body, comment, names, lemma_place, out):
     if bare and eq:
         # a shorthand over a record without a name: its text stands in its place
         ps = eq.group(1).split()
-        MACROS[name] = (ps[0], ps[1:], inline_aliases(eq.group(2)))
+        MACROS[name] = (ps[0], ps[1:], inline_aliases(eq.group(2)), opened(unf))
         return
     found = re.match(rf"(.*?)\(({W}) : {W}\.({W})((?:\s(?:[^()]|\([^()]*\))*)?)\)(.*)$", typ, re.S)
     if not found or found.group(1).strip() not in ("", "(t : ℕ)"):
@@ -336,11 +350,13 @@ def turn_lemma(marks, name, typ, unf, body, comment, names, lemma_place, out):
     place = names.places.get(norm(found.group(3)), found.group(3))
     typ = f"{found.group(1)}({found.group(2)} : {place}){found.group(5)}"
     typ = turned_body(typ, names, lemma_place, place)
+    UNFOLDED.clear()
     new = body
     if eq:
         ps = eq.group(1).split()
         new = f"{name} {' '.join(ps)} = " + turned_body(eq.group(2), names, lemma_place, place)
-        MACROS[name] = (ps[0], ps[1:], inline_aliases(eq.group(2)))
+        unf = with_opened(unf)
+        MACROS[name] = (ps[0], ps[1:], inline_aliases(eq.group(2)), opened(unf))
     lemma_place[name] = place
     out.append((name, comment, [f"{marks}{name} : {typ}"] + unf + [new], place))
 
@@ -370,7 +386,26 @@ def imports(uses, texts, dropped=("Statement", "Tie")):
     return out
 
 
+def local_names(text):
+    """The file's own lemmas in snake case."""
+    tokens = set(re.findall(W, text))
+    table = {}
+    for name in re.findall(rf"(?m)^(?:(?:abbrev|unfoldable) )*({W}) :", text):
+        new = name.replace("-", "_")
+        if new != name and new not in tokens:
+            table[name] = new
+    return re.sub(W, lambda m: table.get(m.group(0), m.group(0)), text) if table else text
+
+
 def main():
+    if sys.argv[1] == "--local-names":
+        for path in sys.argv[2:]:
+            text = open(path, encoding="utf-8").read()
+            new = local_names(text)
+            if new != text:
+                open(path, "w", encoding="utf-8").write(new)
+                print(path)
+        return
     crate, listed = sys.argv[1], sys.argv[2]
     name = os.path.basename(os.path.abspath(crate))
     of = json.load(open(listed))
@@ -405,7 +440,7 @@ def main():
             out.append("")
             for _, comment, lines, _ in answers:
                 out += comment + lines + [""]
-            open(os.path.join(folder, "Answers.antt"), "w").write("\n".join(out).rstrip("\n") + "\n")
+            open(os.path.join(folder, "Answers.antt"), "w").write(local_names("\n".join(out).rstrip("\n") + "\n"))
         os.remove(path)
 
 

@@ -10,17 +10,17 @@ use Rattle.columns.proofs.positions.move_columns.Goals as goal
 use Rattle.columns.proofs.positions.move_columns.Goals.{After-not_above-up}
 
 -- no column moves by more than the new ones
-few-up : (c : After-not_above-up) → c.not_above-up.result ≤ 1024
-few-up c = omega (arith, c.not_above-up.ensures, count_le (λ q. leb q (get_or c.loop-k.cols c.loop-k.k 0)) c.args.positions.now, c.requires.few)
+few_up : (c : After-not_above-up) → c.not_above-up.result ≤ 1024
+few_up c = omega (arith, c.not_above-up.ensures, count_le (λ q. leb q (get_or c.loop-k.cols c.loop-k.k 0)) c.args.positions.now, c.requires.few)
 
 pub loop-k-init : goal.loop-k-init
 loop-k-init c = moving_none _ _
 
 pub overflow_cast-cols : goal.overflow_cast-cols
-overflow_cast-cols c = omega (arith, few-up (goal.at.overflow_cast-cols c).After-not_above-up)
+overflow_cast-cols c = omega (arith, few_up (goal.at.overflow_cast-cols c).After-not_above-up)
 
 pub overflow_add-cols : goal.overflow_add-cols
-overflow_add-cols c = omega (arith, few-up (goal.at.overflow_add-cols c).After-not_above-up, next_low c.loop-k.invariant c.requires c.loop-k-test.true)
+overflow_add-cols c = omega (arith, few_up (goal.at.overflow_add-cols c).After-not_above-up, next_low c.loop-k.invariant c.requires c.loop-k-test.true)
 
 pub loop-k-preserved : goal.loop-k-preserved
 loop-k-preserved c = moving_more c.loop-k.invariant c.loop-k-test.true _ c.not_above-up.ensures

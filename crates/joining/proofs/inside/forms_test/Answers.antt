@@ -21,25 +21,25 @@ lined : (c : In_default-rows) → let m = (matrix c.args.nrows c.args.ncols c.ar
 lined c = sym c.rows_test-rows.ensures ∙ c.in_default-rows.is
 
 -- after each test that found nothing, the rest decides
-past-shape : (c : In_default) {x : Tested} → x ≡ lowest (drop 1 ((forms_tests c.args.p ((matrix c.args.nrows c.args.ncols c.args.row_ptrs.now c.args.col_idcs.now c.args.values.now)) c.args.len c.args.idcs.now c.args.nums.now))) → x ≡ lowest ((forms_tests c.args.p ((matrix c.args.nrows c.args.ncols c.args.row_ptrs.now c.args.col_idcs.now c.args.values.now)) c.args.len c.args.idcs.now c.args.nums.now))
+past_shape : (c : In_default) {x : Tested} → x ≡ lowest (drop 1 ((forms_tests c.args.p ((matrix c.args.nrows c.args.ncols c.args.row_ptrs.now c.args.col_idcs.now c.args.values.now)) c.args.len c.args.idcs.now c.args.nums.now))) → x ≡ lowest ((forms_tests c.args.p ((matrix c.args.nrows c.args.ncols c.args.row_ptrs.now c.args.col_idcs.now c.args.values.now)) c.args.len c.args.idcs.now c.args.nums.now))
 unfolding forms_tests
-past-shape c h = lowest_next _ c.shape_test-shape.ensures c.in_default.is h
+past_shape c h = lowest_next _ c.shape_test-shape.ensures c.in_default.is h
 
 past_pairs : (c : Else-idcs-nums) {x : Tested} → x ≡ lowest (drop 2 ((forms_tests c.args.p ((matrix c.args.nrows c.args.ncols c.args.row_ptrs.now c.args.col_idcs.now c.args.values.now)) c.args.len c.args.idcs.now c.args.nums.now))) → x ≡ lowest ((forms_tests c.args.p ((matrix c.args.nrows c.args.ncols c.args.row_ptrs.now c.args.col_idcs.now c.args.values.now)) c.args.len c.args.idcs.now c.args.nums.now))
 unfolding forms_tests pairs_test refuse
 past_pairs c h = (lowest_next _ c.shape_test-shape.ensures c.in_default.is (lowest_next _ refl (rw (eq-eqb _ _ c.if-idcs-nums.false)) h))
 
-past-rows : (c : In_default-rows) {x : Tested} → x ≡ lowest (drop 3 ((forms_tests c.args.p ((matrix c.args.nrows c.args.ncols c.args.row_ptrs.now c.args.col_idcs.now c.args.values.now)) c.args.len c.args.idcs.now c.args.nums.now))) → x ≡ lowest ((forms_tests c.args.p ((matrix c.args.nrows c.args.ncols c.args.row_ptrs.now c.args.col_idcs.now c.args.values.now)) c.args.len c.args.idcs.now c.args.nums.now))
+past_rows : (c : In_default-rows) {x : Tested} → x ≡ lowest (drop 3 ((forms_tests c.args.p ((matrix c.args.nrows c.args.ncols c.args.row_ptrs.now c.args.col_idcs.now c.args.values.now)) c.args.len c.args.idcs.now c.args.nums.now))) → x ≡ lowest ((forms_tests c.args.p ((matrix c.args.nrows c.args.ncols c.args.row_ptrs.now c.args.col_idcs.now c.args.values.now)) c.args.len c.args.idcs.now c.args.nums.now))
 unfolding forms_tests
-past-rows c h = ((lowest_next _ c.shape_test-shape.ensures c.in_default.is (lowest_next _ refl (rw (eq-eqb _ _ c.if-idcs-nums.false)) (lowest_next _ c.rows_test-rows.ensures c.in_default-rows.is h))))
+past_rows c h = ((lowest_next _ c.shape_test-shape.ensures c.in_default.is (lowest_next _ refl (rw (eq-eqb _ _ c.if-idcs-nums.false)) (lowest_next _ c.rows_test-rows.ensures c.in_default-rows.is h))))
 
-past-columns : (c : In_default-columns) {x : Tested} → x ≡ lowest (drop 4 ((forms_tests c.args.p ((matrix c.args.nrows c.args.ncols c.args.row_ptrs.now c.args.col_idcs.now c.args.values.now)) c.args.len c.args.idcs.now c.args.nums.now))) → x ≡ lowest ((forms_tests c.args.p ((matrix c.args.nrows c.args.ncols c.args.row_ptrs.now c.args.col_idcs.now c.args.values.now)) c.args.len c.args.idcs.now c.args.nums.now))
+past_columns : (c : In_default-columns) {x : Tested} → x ≡ lowest (drop 4 ((forms_tests c.args.p ((matrix c.args.nrows c.args.ncols c.args.row_ptrs.now c.args.col_idcs.now c.args.values.now)) c.args.len c.args.idcs.now c.args.nums.now))) → x ≡ lowest ((forms_tests c.args.p ((matrix c.args.nrows c.args.ncols c.args.row_ptrs.now c.args.col_idcs.now c.args.values.now)) c.args.len c.args.idcs.now c.args.nums.now))
 unfolding forms_tests
-past-columns c h = (((lowest_next _ c.shape_test-shape.ensures c.in_default.is (lowest_next _ refl (rw (eq-eqb _ _ c.if-idcs-nums.false)) (lowest_next _ c.rows_test-rows.ensures c.in_default-rows.is (lowest_next _ c.columns_test-columns.ensures c.in_default-columns.is h))))))
+past_columns c h = (((lowest_next _ c.shape_test-shape.ensures c.in_default.is (lowest_next _ refl (rw (eq-eqb _ _ c.if-idcs-nums.false)) (lowest_next _ c.rows_test-rows.ensures c.in_default-rows.is (lowest_next _ c.columns_test-columns.ensures c.in_default-columns.is h))))))
 
-past-residues : (c : In_default-residues) {x : Tested} → x ≡ lowest (drop 5 ((forms_tests c.args.p ((matrix c.args.nrows c.args.ncols c.args.row_ptrs.now c.args.col_idcs.now c.args.values.now)) c.args.len c.args.idcs.now c.args.nums.now))) → x ≡ lowest ((forms_tests c.args.p ((matrix c.args.nrows c.args.ncols c.args.row_ptrs.now c.args.col_idcs.now c.args.values.now)) c.args.len c.args.idcs.now c.args.nums.now))
+past_residues : (c : In_default-residues) {x : Tested} → x ≡ lowest (drop 5 ((forms_tests c.args.p ((matrix c.args.nrows c.args.ncols c.args.row_ptrs.now c.args.col_idcs.now c.args.values.now)) c.args.len c.args.idcs.now c.args.nums.now))) → x ≡ lowest ((forms_tests c.args.p ((matrix c.args.nrows c.args.ncols c.args.row_ptrs.now c.args.col_idcs.now c.args.values.now)) c.args.len c.args.idcs.now c.args.nums.now))
 unfolding forms_tests
-past-residues c h = ((((lowest_next _ c.shape_test-shape.ensures c.in_default.is (lowest_next _ refl (rw (eq-eqb _ _ c.if-idcs-nums.false)) (lowest_next _ c.rows_test-rows.ensures c.in_default-rows.is (lowest_next _ c.columns_test-columns.ensures c.in_default-columns.is (lowest_next _ c.rows_values_test-residues.ensures c.in_default-residues.is h))))))))
+past_residues c h = ((((lowest_next _ c.shape_test-shape.ensures c.in_default.is (lowest_next _ refl (rw (eq-eqb _ _ c.if-idcs-nums.false)) (lowest_next _ c.rows_test-rows.ensures c.in_default-rows.is (lowest_next _ c.columns_test-columns.ensures c.in_default-columns.is (lowest_next _ c.rows_values_test-residues.ensures c.in_default-residues.is h))))))))
 
 pub returns-in-Refused : goal.returns-in-Refused
 unfolding forms_tests
@@ -47,7 +47,7 @@ returns-in-Refused c = lowest_stop _ c.shape_test-shape.ensures c.in-Refused.is
 
 pub returns-then-idcs-nums : goal.returns-then-idcs-nums
 unfolding forms_tests pairs_test refuse
-returns-then-idcs-nums c = past-shape (goal.at.returns-then-idcs-nums c).In_default (lowest_stop _ refl (rw (ne_eqb _ _ c.if-idcs-nums.true)))
+returns-then-idcs-nums c = past_shape (goal.at.returns-then-idcs-nums c).In_default (lowest_stop _ refl (rw (ne_eqb _ _ c.if-idcs-nums.true)))
 
 pub rows_test-rows-requires : goal.rows_test-rows-requires
 rows_test-rows-requires c = pointers _ (shaped (goal.at.rows_test-rows-requires c).In_default)
@@ -58,15 +58,15 @@ returns-in-Refused-rows c = past_pairs (goal.at.returns-in-Refused-rows c).Else-
 
 pub returns-in-Refused-columns : goal.returns-in-Refused-columns
 unfolding forms_tests
-returns-in-Refused-columns c = past-rows (goal.at.returns-in-Refused-columns c).In_default-rows (lowest_stop _ c.columns_test-columns.ensures c.in-Refused-columns.is)
+returns-in-Refused-columns c = past_rows (goal.at.returns-in-Refused-columns c).In_default-rows (lowest_stop _ c.columns_test-columns.ensures c.in-Refused-columns.is)
 
 pub rows_values_test-residues-requires : goal.rows_values_test-residues-requires
 rows_values_test-residues-requires c = cut _ (shaped (goal.at.rows_values_test-residues-requires c).In_default) (lined (goal.at.rows_values_test-residues-requires c).In_default-rows)
 
 pub returns-in-Refused-residues : goal.returns-in-Refused-residues
 unfolding forms_tests
-returns-in-Refused-residues c = past-columns (goal.at.returns-in-Refused-residues c).In_default-columns (lowest_stop _ c.rows_values_test-residues.ensures c.in-Refused-residues.is)
+returns-in-Refused-residues c = past_columns (goal.at.returns-in-Refused-residues c).In_default-columns (lowest_stop _ c.rows_values_test-residues.ensures c.in-Refused-residues.is)
 
 pub returns : goal.returns
 unfolding forms_tests
-returns c = past-residues (goal.at.returns c).In_default-residues (lowest_last c.values_test.ensures)
+returns c = past_residues (goal.at.returns c).In_default-residues (lowest_last c.values_test.ensures)

@@ -16,11 +16,11 @@ use Rattle.triplets.proofs.inside.triplets_test.Goals.{In_default, In_default-pa
 modulus_good : (c : In_default) → let a = c.args in modulus_test a.p ≡ Good
 modulus_good c = sym c.modulus_test-modulus.ensures ∙ c.in_default.is
 
-size-good : (c : In_default-size) → let a = c.args in size_test 65536 a.nrows a.ncols (length a.vals.now) ≡ Good
-size-good c = sym c.size_test-size.ensures ∙ c.in_default-size.is
+size_good : (c : In_default-size) → let a = c.args in size_test 65536 a.nrows a.ncols (length a.vals.now) ≡ Good
+size_good c = sym c.size_test-size.ensures ∙ c.in_default-size.is
 
-parts-good : (c : In_default-parts) → let a = c.args in parts_test a.rows.now a.cols.now a.vals.now ≡ Good
-parts-good c = sym c.parts_test-parts.ensures ∙ c.in_default-parts.is
+parts_good : (c : In_default-parts) → let a = c.args in parts_test a.rows.now a.cols.now a.vals.now ≡ Good
+parts_good c = sym c.parts_test-parts.ensures ∙ c.in_default-parts.is
 
 values_good : (c : In_default-residues) → let a = c.args in values_test Residue a.p a.vals.now ≡ Good
 values_good c = sym c.values_test-residues.ensures ∙ c.in_default-residues.is
@@ -38,22 +38,22 @@ returns-in-Refused-size c = rw (modulus_good (goal.at.returns-in-Refused-size c)
 
 pub returns-in-Refused-parts : goal.returns-in-Refused-parts
 unfolding triplets_test lowest ◌else◌
-returns-in-Refused-parts c = rw (modulus_good (goal.at.returns-in-Refused-parts c).In_default, size-good (goal.at.returns-in-Refused-parts c).In_default-size, ← c.parts_test-parts.ensures, c.in-Refused-parts.is)
+returns-in-Refused-parts c = rw (modulus_good (goal.at.returns-in-Refused-parts c).In_default, size_good (goal.at.returns-in-Refused-parts c).In_default-size, ← c.parts_test-parts.ensures, c.in-Refused-parts.is)
 
 pub returns-in-Refused-residues : goal.returns-in-Refused-residues
 unfolding triplets_test lowest ◌else◌
-returns-in-Refused-residues c = rw (modulus_good (goal.at.returns-in-Refused-residues c).In_default, size-good (goal.at.returns-in-Refused-residues c).In_default-size, parts-good (goal.at.returns-in-Refused-residues c).In_default-parts, ← c.values_test-residues.ensures, c.in-Refused-residues.is)
+returns-in-Refused-residues c = rw (modulus_good (goal.at.returns-in-Refused-residues c).In_default, size_good (goal.at.returns-in-Refused-residues c).In_default-size, parts_good (goal.at.returns-in-Refused-residues c).In_default-parts, ← c.values_test-residues.ensures, c.in-Refused-residues.is)
 
 pub places_test-places-requires : goal.places_test-places-requires
-places_test-places-requires c = parts_of _ _ _ (parts-good (goal.at.places_test-places-requires c).In_default-parts)
+places_test-places-requires c = parts_of _ _ _ (parts_good (goal.at.places_test-places-requires c).In_default-parts)
 
 pub returns-in-Refused-places : goal.returns-in-Refused-places
 unfolding triplets_test lowest ◌else◌
-returns-in-Refused-places c = rw (modulus_good (goal.at.returns-in-Refused-places c).In_default, size-good (goal.at.returns-in-Refused-places c).In_default-size, parts-good (goal.at.returns-in-Refused-places c).In_default-parts, values_good (goal.at.returns-in-Refused-places c).In_default-residues, ← c.places_test-places.ensures, c.in-Refused-places.is)
+returns-in-Refused-places c = rw (modulus_good (goal.at.returns-in-Refused-places c).In_default, size_good (goal.at.returns-in-Refused-places c).In_default-size, parts_good (goal.at.returns-in-Refused-places c).In_default-parts, values_good (goal.at.returns-in-Refused-places c).In_default-residues, ← c.places_test-places.ensures, c.in-Refused-places.is)
 
 pub order_test-requires : goal.order_test-requires
-order_test-requires c = parts_of _ _ _ (parts-good (goal.at.order_test-requires c).In_default-parts)
+order_test-requires c = parts_of _ _ _ (parts_good (goal.at.order_test-requires c).In_default-parts)
 
 pub returns : goal.returns
 unfolding triplets_test lowest ◌else◌
-returns c = rw (modulus_good (goal.at.returns c).In_default, size-good (goal.at.returns c).In_default-size, parts-good (goal.at.returns c).In_default-parts, values_good (goal.at.returns c).In_default-residues, places_good (goal.at.returns c).In_default-places, ← c.order_test.ensures) (sym (else_none _))
+returns c = rw (modulus_good (goal.at.returns c).In_default, size_good (goal.at.returns c).In_default-size, parts_good (goal.at.returns c).In_default-parts, values_good (goal.at.returns c).In_default-residues, places_good (goal.at.returns c).In_default-places, ← c.order_test.ensures) (sym (else_none _))
