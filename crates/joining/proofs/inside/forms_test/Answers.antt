@@ -30,15 +30,15 @@ unfolding forms_tests pairs_test refuse
 past_pairs c h = (lowest_next _ c.shape_test-shape.ensures c.in_default.is (lowest_next _ refl (rw (eq-eqb _ _ c.if-idcs-nums.false)) h))
 
 past_rows : (c : In_default-rows) {x : Tested} → x ≡ lowest (drop 3 ((forms_tests c.args.p ((matrix c.args.nrows c.args.ncols c.args.row_ptrs.now c.args.col_idcs.now c.args.values.now)) c.args.len c.args.idcs.now c.args.nums.now))) → x ≡ lowest ((forms_tests c.args.p ((matrix c.args.nrows c.args.ncols c.args.row_ptrs.now c.args.col_idcs.now c.args.values.now)) c.args.len c.args.idcs.now c.args.nums.now))
-unfolding forms_tests
+unfolding forms_tests pairs_test refuse
 past_rows c h = ((lowest_next _ c.shape_test-shape.ensures c.in_default.is (lowest_next _ refl (rw (eq-eqb _ _ c.if-idcs-nums.false)) (lowest_next _ c.rows_test-rows.ensures c.in_default-rows.is h))))
 
 past_columns : (c : In_default-columns) {x : Tested} → x ≡ lowest (drop 4 ((forms_tests c.args.p ((matrix c.args.nrows c.args.ncols c.args.row_ptrs.now c.args.col_idcs.now c.args.values.now)) c.args.len c.args.idcs.now c.args.nums.now))) → x ≡ lowest ((forms_tests c.args.p ((matrix c.args.nrows c.args.ncols c.args.row_ptrs.now c.args.col_idcs.now c.args.values.now)) c.args.len c.args.idcs.now c.args.nums.now))
-unfolding forms_tests
+unfolding forms_tests pairs_test refuse
 past_columns c h = (((lowest_next _ c.shape_test-shape.ensures c.in_default.is (lowest_next _ refl (rw (eq-eqb _ _ c.if-idcs-nums.false)) (lowest_next _ c.rows_test-rows.ensures c.in_default-rows.is (lowest_next _ c.columns_test-columns.ensures c.in_default-columns.is h))))))
 
 past_residues : (c : In_default-residues) {x : Tested} → x ≡ lowest (drop 5 ((forms_tests c.args.p ((matrix c.args.nrows c.args.ncols c.args.row_ptrs.now c.args.col_idcs.now c.args.values.now)) c.args.len c.args.idcs.now c.args.nums.now))) → x ≡ lowest ((forms_tests c.args.p ((matrix c.args.nrows c.args.ncols c.args.row_ptrs.now c.args.col_idcs.now c.args.values.now)) c.args.len c.args.idcs.now c.args.nums.now))
-unfolding forms_tests
+unfolding forms_tests pairs_test refuse
 past_residues c h = ((((lowest_next _ c.shape_test-shape.ensures c.in_default.is (lowest_next _ refl (rw (eq-eqb _ _ c.if-idcs-nums.false)) (lowest_next _ c.rows_test-rows.ensures c.in_default-rows.is (lowest_next _ c.columns_test-columns.ensures c.in_default-columns.is (lowest_next _ c.rows_values_test-residues.ensures c.in_default-residues.is h))))))))
 
 pub returns-in-Refused : goal.returns-in-Refused

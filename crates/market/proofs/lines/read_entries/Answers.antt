@@ -17,13 +17,13 @@ pub shape_of-vals-in_default : goal.shape_of-vals-in_default
 shape_of-vals-in_default c = reading_vals _ _ _ _ _ c.loop-left.invariant
 
 pub returns-in_default : goal.returns-in_default
-returns-in_default c = absurd (reading_line _ _ _ _ _ c.loop-left.invariant c.loop-left-test.true c.line_at_lem.ensures c.in_default.is)
+returns-in_default c = absurd (reading_line _ _ _ _ _ c.loop-left.invariant c.loop-left-test.true c.line_at.ensures c.in_default.is)
 
 pub overflow_sub-rows : goal.overflow_sub-rows
-overflow_sub-rows c = let f = reading_fit _ _ _ _ _ c.loop-left.invariant c.loop-left-test.true c.line_at_lem.ensures c.in-Three.is in omega (arith, f.row_from)
+overflow_sub-rows c = let f = reading_fit _ _ _ _ _ c.loop-left.invariant c.loop-left-test.true c.line_at.ensures c.in-Three.is in omega (arith, f.row_from)
 
 pub overflow_cast-rows : goal.overflow_cast-rows
-overflow_cast-rows c = let f = reading_fit _ _ _ _ _ c.loop-left.invariant c.loop-left-test.true c.line_at_lem.ensures c.in-Three.is in omega (arith, f.row_to)
+overflow_cast-rows c = let f = reading_fit _ _ _ _ _ c.loop-left.invariant c.loop-left-test.true c.line_at.ensures c.in-Three.is in omega (arith, f.row_to)
 
 pub offset_bounds-rows-k : goal.offset_bounds-rows-k
 offset_bounds-rows-k c = omega (arith, c.loop-left.invariant.row_room)
@@ -32,10 +32,10 @@ pub bounds-rows-k : goal.bounds-rows-k
 bounds-rows-k c = omega (arith, reading_rows _ _ _ _ _ c.loop-left.invariant, c.loop-left.invariant.row_room)
 
 pub overflow_sub-cols : goal.overflow_sub-cols
-overflow_sub-cols c = let f = reading_fit _ _ _ _ _ c.loop-left.invariant c.loop-left-test.true c.line_at_lem.ensures c.in-Three.is in omega (arith, f.col_from)
+overflow_sub-cols c = let f = reading_fit _ _ _ _ _ c.loop-left.invariant c.loop-left-test.true c.line_at.ensures c.in-Three.is in omega (arith, f.col_from)
 
 pub overflow_cast-cols : goal.overflow_cast-cols
-overflow_cast-cols c = let f = reading_fit _ _ _ _ _ c.loop-left.invariant c.loop-left-test.true c.line_at_lem.ensures c.in-Three.is in omega (arith, f.col_to)
+overflow_cast-cols c = let f = reading_fit _ _ _ _ _ c.loop-left.invariant c.loop-left-test.true c.line_at.ensures c.in-Three.is in omega (arith, f.col_to)
 
 pub offset_bounds-cols-k : goal.offset_bounds-cols-k
 offset_bounds-cols-k c = omega (arith, c.loop-left.invariant.col_room)
@@ -44,7 +44,7 @@ pub bounds-cols-k : goal.bounds-cols-k
 bounds-cols-k c = omega (arith, reading_cols _ _ _ _ _ c.loop-left.invariant, c.loop-left.invariant.col_room)
 
 pub overflow_cast-vals : goal.overflow_cast-vals
-overflow_cast-vals c = let f = reading_fit _ _ _ _ _ c.loop-left.invariant c.loop-left-test.true c.line_at_lem.ensures c.in-Three.is in omega (arith, f.small)
+overflow_cast-vals c = let f = reading_fit _ _ _ _ _ c.loop-left.invariant c.loop-left-test.true c.line_at.ensures c.in-Three.is in omega (arith, f.small)
 
 pub offset_bounds-vals-k : goal.offset_bounds-vals-k
 offset_bounds-vals-k c = omega (arith, c.loop-left.invariant.value_room)
@@ -56,7 +56,7 @@ pub overflow_add-k : goal.overflow_add-k
 overflow_add-k c = omega (arith, c.loop-left.invariant.row_room)
 
 pub loop-left-preserved : goal.loop-left-preserved
-loop-left-preserved c = reading_more _ _ _ _ _ c.loop-left.invariant c.loop-left-test.true c.line_at_lem.ensures c.in-Three.is
+loop-left-preserved c = reading_more _ _ _ _ _ c.loop-left.invariant c.loop-left-test.true c.line_at.ensures c.in-Three.is
 
 pub shape_of-rows : goal.shape_of-rows
 shape_of-rows c = reading_rows _ _ _ _ _ c.loop-left.invariant

@@ -8,7 +8,7 @@ use Rattle.market.proofs.lines.size_line.Goals as goal
 
 pub returns-then-starts : goal.returns-then-starts
 unfolding banner
-returns-then-starts c = sized _ c.past_comments.result _ (ap (front_read _ 49) (sym c.if-starts.true) ∙ c.starts.ensures) c.past_comments.ensures c.line_at_lem.ensures
+returns-then-starts c = sized _ c.past_comments.result _ (ap (front_read _ 49) (sym c.if-starts.true) ∙ c.starts.ensures) c.past_comments.ensures c.line_at.ensures
 
 pub returns : goal.returns
 unfolding banner line_read

@@ -12,10 +12,10 @@ loop-left-init c = refl
 
 pub returns-in_default : goal.returns-in_default
 unfolding walk_read whole
-returns-in_default c = ap whole (sym (walk_broken _ _ _ _ c.loop-left.at _ c.loop-left-test.true c.line_at_lem.ensures c.in_default.is) ∙ c.loop-left.invariant)
+returns-in_default c = ap whole (sym (walk_broken _ _ _ _ c.loop-left.at _ c.loop-left-test.true c.line_at.ensures c.in_default.is) ∙ c.loop-left.invariant)
 
 pub loop-left-preserved : goal.loop-left-preserved
-loop-left-preserved c = rw c.noted-faults.ensures (sym (walk_more _ _ _ _ c.loop-left.at _ c.loop-left-test.true c.line_at_lem.ensures c.in-Three.is) ∙ c.loop-left.invariant)
+loop-left-preserved c = rw c.noted-faults.ensures (sym (walk_more _ _ _ _ c.loop-left.at _ c.loop-left-test.true c.line_at.ensures c.in-Three.is) ∙ c.loop-left.invariant)
 
 pub returns-then-at-text : goal.returns-then-at-text
 unfolding walk_read
