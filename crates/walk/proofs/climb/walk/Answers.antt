@@ -2,7 +2,6 @@
 -- Assumes nothing.
 use Prim.Native.Nat.{◌+◌, ◌≤◌}
 use native.Mathlib.Omega.{arith}
-use borrow.Author.Tests.{not-true, not-false}
 use Rattle.sparse.specs.Pivots.{mark}
 use Rattle.walk.specs.Step.{upper, pivot_at}
 use Rattle.walk.proofs.Walking.{up_bound, front_start, front_next, front_pivot, up_start, up_stop, up_free, up_clears, up_pivot, up_end, next_above, minus_long}
@@ -25,7 +24,7 @@ shape_of-dense-then-not-on c = c.loop-col.invariant.0.left.long
 
 pub returns-then-not-on : goal.returns-then-not-on
 unfolding pivot_at upper mark
-returns-then-not-on c = record { left = up_stop _ _ _ _ _ c.loop-col.invariant.0 (omega (arith, c.loop-col-test.true, c.loop-col.invariant.0.left.long)) (not-true _ c.if-not-on.true) c.if-row.true; bound = omega (arith, c.loop-col-test.true, c.loop-col.invariant.0.left.long); before = c.loop-col.invariant.1.zeros }
+returns-then-not-on c = record { left = up_stop _ _ _ _ _ c.loop-col.invariant.0 (omega (arith, c.loop-col-test.true, c.loop-col.invariant.0.left.long)) c.if-not-on.true c.if-row.true; bound = omega (arith, c.loop-col-test.true, c.loop-col.invariant.0.left.long); before = c.loop-col.invariant.1.zeros }
 
 pub overflow_add-col : goal.overflow_add-col
 overflow_add-col c = omega (arith, c.loop-col-test.true)
@@ -38,7 +37,7 @@ loop-col-smaller-then-row c = let above : c.loop-col.col + 1 ≤ c.next-col-then
 
 pub loop-col-preserved-then-row : goal.loop-col-preserved-then-row
 unfolding pivot_at upper mark
-loop-col-preserved-then-row c = (up_free _ _ _ _ _ c.loop-col.invariant.0 (omega (arith, c.loop-col-test.true, c.loop-col.invariant.0.left.long)) (not-false _ c.if-not-on.false) c.if-row.true c.lesser-head.ensures c.next-col-then-row.ensures, front_next c.loop-col.invariant.1 c.next-col-then-row.ensures)
+loop-col-preserved-then-row c = (up_free _ _ _ _ _ c.loop-col.invariant.0 (omega (arith, c.loop-col-test.true, c.loop-col.invariant.0.left.long)) c.if-not-on.false c.if-row.true c.lesser-head.ensures c.next-col-then-row.ensures, front_next c.loop-col.invariant.1 c.next-col-then-row.ensures)
 
 pub overflow_cast-row : goal.overflow_cast-row
 overflow_cast-row c = omega (arith, c.shared_slice_known-in-loop-col-1.given c.loop-col.col)
