@@ -286,15 +286,19 @@ def expanded(text, only):
         found = re.search(rf"(?<![^\s(){{}};,\[\]])({names})(?=\s)", text)
         if not found:
             return text
-        record, params, body, opens = MACROS[found.group(1)]
+        record, params, body, opens, types = MACROS[found.group(1)]
         UNFOLDED.update(opens)
         end, arg = atom_at(text, found.end())
         base = re.match(rf"\(*({W})", arg)
         table = {record: base.group(1) if base else arg}
-        for q in params:
+        binders = ""
+        for k, q in enumerate(params):
             end, it = atom_at(text, end)
-            table[q] = it
-        text = text[: found.start()] + "(" + substituted(body.strip(), table) + ")" + text[end:]
+            if it:
+                table[q] = it
+            else:
+                binders += f"λ ({q} : {types[k]}). " if k < len(types) else f"λ {q}. "
+        text = text[: found.start()] + "(" + binders + substituted(body.strip(), table) + ")" + text[end:]
     return text
 
 
@@ -307,13 +311,29 @@ def with_opened(unf):
     return ["unfolding " + " ".join(opened(unf) + more)] if more or unf else []
 
 
+SOURCE = set()
+
+
+def source_names(text):
+    """A field of a path that is a name of the source, as the source spells it."""
+
+    def one(found):
+        it = found.group(0).replace("-", "_")
+        return it if it in SOURCE else found.group(0)
+
+    return re.sub(r"(?<=\.)[a-z][a-z0-9]*(?:-[a-z0-9]+)+", one, text)
+
+
 def turned_body(body, names, lemma_place, at, goal=None, params=("c",)):
     if goal:
         body = expanded(body, [k for k in MACROS if k not in lemma_place])
     else:
         body = expanded(body, [k for k in MACROS if lemma_place.get(k) != at])
     body = inline_aliases(body)
-    body = path_turned(body, names, lemma_place, at, {})
+    body = source_names(path_turned(body, names, lemma_place, at, {}))
+    # a test of `!x` says what it says of x
+    body = re.sub(r"\(not-(?:true|false) _ (c\.if-not-[^\s()]+)\)", r"\1", body)
+    body = re.sub(r"not-(?:true|false) _ (c\.if-not-[^\s()]+)", r"\1", body)
     return whole_args(body, names, lemma_place, at, goal, params)
 
 
@@ -337,11 +357,11 @@ def turn_answer(name, new, unf, body, comment, names, lemma_place, out):
 
 def turn_lemma(marks, name, typ, unf, body, comment, names, lemma_place, out):
     eq = re.match(rf"{re.escape(name)}((?:\s+{W})*?)\s+=\s+(.*)$", body, re.S)
-    bare = re.match(rf"{W}\.({W})\s*→", typ)
+    bare = re.match(rf"{W}\.({W})(?:\s+[^→()]*)?\s*→", typ)
     if bare and eq:
         # a shorthand over a record without a name: its text stands in its place
         ps = eq.group(1).split()
-        MACROS[name] = (ps[0], ps[1:], inline_aliases(eq.group(2)), opened(unf))
+        MACROS[name] = (ps[0], ps[1:], inline_aliases(eq.group(2)), opened(unf), [t.strip() for t in typ.split(" → ")[1:-1]])
         return
     found = re.match(rf"(.*?)\(({W}) : {W}\.({W})((?:\s(?:[^()]|\([^()]*\))*)?)\)(.*)$", typ, re.S)
     if not found or found.group(1).strip() not in ("", "(t : ℕ)"):
@@ -356,7 +376,7 @@ def turn_lemma(marks, name, typ, unf, body, comment, names, lemma_place, out):
         ps = eq.group(1).split()
         new = f"{name} {' '.join(ps)} = " + turned_body(eq.group(2), names, lemma_place, place)
         unf = with_opened(unf)
-        MACROS[name] = (ps[0], ps[1:], inline_aliases(eq.group(2)), opened(unf))
+        MACROS[name] = (ps[0], ps[1:], inline_aliases(eq.group(2)), opened(unf), [])
     lemma_place[name] = place
     out.append((name, comment, [f"{marks}{name} : {typ}"] + unf + [new], place))
 
@@ -409,6 +429,8 @@ def main():
     crate, listed = sys.argv[1], sys.argv[2]
     name = os.path.basename(os.path.abspath(crate))
     of = json.load(open(listed))
+    for file in os.listdir(os.path.join(crate, "src")):
+        SOURCE.update(w for w in re.findall(r"[a-z][a-z0-9_]*", open(os.path.join(crate, "src", file)).read()) if "_" in w)
     for folder, dirs, files in os.walk(os.path.join(crate, "proofs")):
         if "Proof.antt" not in files:
             continue

@@ -1,22 +1,16 @@
 -- `write_column` meets its contract. The loop's invariant: the rows before `row` are written, each with its entry of the vector, and the
 -- cursor stands behind these. Assumes nothing.
 use mathlib.Core.Path.{sym}
-use mathlib.Core.List.{List}
-use Prim.Native.Nat.{ℕ}
 use native.Mathlib.Omega.{arith}
 use borrow.Author.Rules.{rules}
 use Rattle.lists.proofs.Tables.{length-table}
-use Rattle.sparse.specs.Rows.{Entry, entries}
+use Rattle.sparse.specs.Rows.{entries}
 use Rattle.writing.proofs.RowLoops.{room_for, rows_start, rows_end, keep_ptrs, keep_cols, keep_vals, next_place}
 use Rattle.beside.specs.Beside.{with_column}
 use Rattle.beside.specs.Parts.{in_column}
 use Rattle.beside.proofs.Cursors.{none_below}
 use Rattle.beside.proofs.Joined.{beside_ready, beside_next}
 use Rattle.beside.proofs.column.write_column.Goals as goal
-
--- what stands beside row i
-abbrev joined : tie.Start invariant-loop decreases-loop → ℕ → List Entry
-joined s = in_column s.args.ncols (entries s.args.idcs.now s.args.nums.now)
 
 pub bounds-out_ptrs-0 : goal.bounds-out_ptrs-0
 bounds-out_ptrs-0 c = omega (arith, (room_for _ _ _ _ c.requires.rows).pointers)
@@ -29,7 +23,7 @@ unfolding with_column in_column
 put_column_row-at-requires c = record {
   cursor = record { strict = c.requires.strict; stands = c.loop-row.invariant.1 };
   each = c.requires.each;
-  writes = beside_ready _ (joined c.before.before.before.before.before.before.before.before.before.before.before.before) _ _ _ c.requires.from c.requires.rows c.loop-row.invariant.0 c.loop-row-test.true;
+  writes = beside_ready _ ((in_column c.args.ncols (entries c.args.idcs.now c.args.nums.now))) _ _ _ c.requires.from c.requires.rows c.loop-row.invariant.0 c.loop-row-test.true;
 }
 
 pub past_row-next-requires : goal.past_row-next-requires
@@ -40,7 +34,7 @@ bounds-out_ptrs-row c = next_place _ _ _ _ c.requires.rows c.loop-row.invariant.
 
 pub loop-row-preserved : goal.loop-row-preserved
 unfolding with_column in_column
-loop-row-preserved c = (beside_next _ (joined c.before.before.before.before.before.before.before.before.before.before.before.before.before.before.before.before.before.before) _ _ _ c.requires.from c.requires.rows c.loop-row.invariant.0 c.loop-row-test.true c.put_column_row-at.ensures, c.past_row-next.ensures, search rules)
+loop-row-preserved c = (beside_next _ ((in_column c.args.ncols (entries c.args.idcs.now c.args.nums.now))) _ _ _ c.requires.from c.requires.rows c.loop-row.invariant.0 c.loop-row-test.true c.put_column_row-at.ensures, c.past_row-next.ensures, search rules)
 
 pub shape_of-out_ptrs : goal.shape_of-out_ptrs
 shape_of-out_ptrs c = keep_ptrs _ _ _ _ c.requires.rows c.loop-row.invariant.0

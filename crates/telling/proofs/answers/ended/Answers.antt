@@ -1,0 +1,17 @@
+-- `ended` meets its contract.
+-- Assumes nothing.
+use Rattle.walk.specs.Step.{is_none}
+use Rattle.telling.specs.Runs.{ended}
+use Rattle.telling.proofs.Endings.{never_ends}
+use Rattle.telling.proofs.answers.ended.Goals as goal
+
+pub returns-then-check : goal.returns-then-check
+unfolding ended is_none
+returns-then-check c = rw (c.in-None.is, c.if-check.true)
+
+pub returns-else-check : goal.returns-else-check
+unfolding ended is_none
+returns-else-check c = rw (c.in-None.is, c.if-check.false)
+
+pub returns-in-Accepted : goal.returns-in-Accepted
+returns-in-Accepted c = never_ends _ c.in-Accepted.is _
