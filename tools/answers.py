@@ -287,6 +287,9 @@ def expanded(text, only):
         if not found:
             return text
         record, params, body, opens, types = MACROS[found.group(1)]
+        if isinstance(types, str):
+            # a tactic, a record or a tuple wants its type
+            body, types = f"let it : {types} in it".replace(" in it", f" = {body.strip()} in it"), []
         UNFOLDED.update(opens)
         end, arg = atom_at(text, found.end())
         base = re.match(rf"\(*({W})", arg)
@@ -368,6 +371,7 @@ def turn_lemma(marks, name, typ, unf, body, comment, names, lemma_place, out):
         out.append((name, comment, [f"{marks}{name} : {typ}"] + unf + [body], None))
         return
     place = names.places.get(norm(found.group(3)), found.group(3))
+    lemma_type = re.sub(r"^\s*→\s*", "", inline_aliases(found.group(5)))
     typ = f"{found.group(1)}({found.group(2)} : {place}){found.group(5)}"
     typ = turned_body(typ, names, lemma_place, place)
     UNFOLDED.clear()
@@ -376,7 +380,7 @@ def turn_lemma(marks, name, typ, unf, body, comment, names, lemma_place, out):
         ps = eq.group(1).split()
         new = f"{name} {' '.join(ps)} = " + turned_body(eq.group(2), names, lemma_place, place)
         unf = with_opened(unf)
-        MACROS[name] = (ps[0], ps[1:], inline_aliases(eq.group(2)), opened(unf), [])
+        MACROS[name] = (ps[0], ps[1:], inline_aliases(eq.group(2)), opened(unf), lemma_type if len(ps) == 1 and re.match(r"record|rw|omega|\(|let|simp|search", eq.group(2).strip()) else [])
     lemma_place[name] = place
     out.append((name, comment, [f"{marks}{name} : {typ}"] + unf + [new], place))
 

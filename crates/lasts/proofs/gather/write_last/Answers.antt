@@ -24,7 +24,7 @@ fits c = room_for c.requires
 place : (c : In-Value) → let l = c.loop-k in (l.at < length l.out_idcs) × (l.at < length l.out_vals)
 place c = let inv = c.loop-k.invariant in
     let f = (room_for c.requires) in
-    let i = (record { from = c.requires.from; within = rw (← c.indices-size.ensures) c.loop-k-test.true }) in
+    let i = (let it : let a = c.args in At a.order (matrix a.nrows a.ncols a.row_ptrs.now a.col_idcs.now a.values.now) a.pivots.now c.loop-k.k = record { from = c.requires.from; within = rw (← c.indices-size.ensures) c.loop-k-test.true } in it) in
     let room = tally_room _ _ _ inv.tally (one_of i) (found_one i c.last_at-last.ensures c.in-Value.is) in
     (omega (arith, room, f.indices, idcs_keep f inv), omega (arith, room, f.numbers, vals_keep f inv))
 
