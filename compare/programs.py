@@ -11,7 +11,6 @@ import form
 HERE = Path(__file__).resolve().parent
 ROOT = HERE.parent
 TARGET = ROOT / "target" / "compare"
-BIN = ROOT / "target" / "bin"
 NO_ANSWER = "(no answer)"
 NO_CASE = "(no case)"
 
@@ -39,15 +38,16 @@ def second():
 
 
 def replay(name="replay"):
-    """Our program of that name."""
-    program = BIN / name
+    """Our program of that name. It is built where it is missing, with an empty input."""
+    crate = ROOT / "crates" / name
+    program = crate / "out" / name
     if not program.exists():
-        subprocess.run(["rt", "check", name], cwd=ROOT)
+        subprocess.run(["rt", "run"], cwd=crate, stdin=subprocess.DEVNULL, stdout=subprocess.DEVNULL)
     if not program.exists():
-        stop(f"there is no target/bin/{name}, and `rt check {name}` made none")
+        stop(f"there is no crates/{name}/out/{name}, and `rt run` in crates/{name} made none")
     sources = [path for path in (ROOT / "crates").rglob("*.rt")]
     if any(path.stat().st_mtime > program.stat().st_mtime for path in sources):
-        print(f"compare: target/bin/{name} is older than a source; `rt check {name}` renews it", file=sys.stderr)
+        print(f"compare: crates/{name}/out/{name} is older than a source; `rt run` there renews it", file=sys.stderr)
     return [str(program)]
 
 

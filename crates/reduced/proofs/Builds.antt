@@ -1,13 +1,12 @@
 -- Back substitution: rows taken by falling head are each accepted at their own head, and U's rows are reduced and keep the span.
 -- Assumes nothing.
-use mathlib.Core.Path.{◌≡◌, refl, ap, ◌∙◌}
+use mathlib.Core.Path.{◌≡◌, ap, ◌∙◌}
 use mathlib.Core.Bool.{true}
 use mathlib.Core.List.{List}
 use Prim.Native.Nat.{ℕ, zero, suc, ◌≤◌, ◌<◌}
 use native.Mathlib.Nat.{not-suc-le-zero}
 use native.Mathlib.Omega.{arith}
 use lib.ListN.{length, length-set}
-use Rattle.lists.specs.Table.{table}
 use Rattle.lists.proofs.Tables.{length-table, get_or-table}
 use Rattle.linear.proofs.Span.{span_trans}
 use Rattle.sparse.specs.Pivots.{mark}

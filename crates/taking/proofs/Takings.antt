@@ -15,7 +15,7 @@ use Rattle.field.proofs.Primes.{modulus_iff}
 use Rattle.sparse.specs.Lent.{outcome, Outcome}
 use Rattle.sparse.specs.Matrix.{value_in}
 use Rattle.sparse.specs.Put.{cols_of, values_of}
-use Rattle.sparse.specs.Rows.{Entry, entry, entries}
+use Rattle.sparse.specs.Rows.{Entry, entries}
 use Rattle.meaning.proofs.RowLists.{entry_cols, entry_values}
 use Rattle.meaning.proofs.Values.{Climbs, value_elsewhere}
 use Rattle.state.specs.declared.Mode.{Mode}
