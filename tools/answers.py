@@ -421,7 +421,30 @@ def local_names(text):
     return re.sub(W, lambda m: table.get(m.group(0), m.group(0)), text) if table else text
 
 
+def single_parens(text):
+    """`((x))` is `(x)`."""
+    out, stack, drop = list(text), [], set()
+    close = {}
+    for i, ch in enumerate(text):
+        if ch == "(":
+            stack.append(i)
+        elif ch == ")" and stack:
+            close[stack.pop()] = i
+    for i, k in close.items():
+        if text[i + 1 : i + 2] == "(" and close.get(i + 1) == k - 1:
+            drop.update((i + 1, k - 1))
+    return "".join(ch for i, ch in enumerate(out) if i not in drop)
+
+
 def main():
+    if sys.argv[1] == "--single-parens":
+        for path in sys.argv[2:]:
+            text = open(path, encoding="utf-8").read()
+            new = single_parens(text)
+            if new != text:
+                open(path, "w", encoding="utf-8").write(new)
+                print(path)
+        return
     if sys.argv[1] == "--local-names":
         for path in sys.argv[2:]:
             text = open(path, encoding="utf-8").read()

@@ -1,4 +1,4 @@
--- `entering::add_row` meets its contract: a walk of its MIR. The borrow of the record is opened and its value copied; the slices go to `enter` at their own lifetimes; the counts of its result are stored, and the borrow is closed at them.
+-- `entering::add_row_with_back_subs` meets its contract: a walk of its MIR. The borrow of the record is opened and its value copied; the slices go to `enter_with_back_subs` at their own lifetimes; the counts of its result are stored, and the borrow is closed at them.
 -- Assumes nothing.
 use mathlib.Core.Path.{◌≡◌, refl, ap}
 use Prim.Native.Nat.{ℕ}
@@ -15,7 +15,6 @@ use prog.Routine.{Routine}
 use prog.Wp.{Calls, Loops, WpFn, Tables}
 use types.Logic.{Logic}
 use contract.Monad.{Fun, fact}
-use contract.Running.{tables, tables_of}
 use types.Kit.{‵, raw, some, later, ◌⊛◌, ⋆, ◌$◌, ◌∵◌, !, qed, by, move, keep, drop, use1, rewrite, split, join, pick, fsplit, fsplit3, fjoin, fjoin3, feq_l, feq_i, suffices, frame, await, done}
 use types.Run.{look, look_raw, init, store_raw, forget, stop, hop, fld, from, load, addr, of_opd, and_then, no_more, assigns, land, returns, enter, alloc1, alloc0, params1, pass1, pass0, free1, free0}
 use types.Part.{agg, whole, sub, look_in}
@@ -29,38 +28,22 @@ use denote.Ref.{Bor, MutBor, MutRef, mut_vals, mut_Tells}
 use denote.Slice.{slice_val, MutSlice, ShrSlice, Room, finally, shr_slice_vals, mut_slice_vals, mut_slice_Tells, shr_slice_Tells, shr_slice_copy}
 use denote.Steps.{only, opens, closes, owned, peeks, heard, nothing}
 use denote.Struct.Steps.{spelt}
-use denote.Struct.Laws as LL
-use denote.Enum.Laws as EL
 use denote.Triple.Entry.{on_entry}
 use denote.Triple.Spec.{Meets, triple_of}
-use denote.Triple.Statement.{Contract, Triple}
 use denote.Triple.Call.{calls_at}
 use denote.Triple.Clauses.{ensured, lasts}
-use denote.Triple.Table.{entered, cited}
 use denote.Triple.Walked.{says, Stays, stay_ref, gave_slice, stay_none_slice, walk_of, Goes-ref, Goes-gave_slice, Goes-none_slice, Walks, ends_at, walked, walk_Meets}
 use denote.Exit.{yes}
 use denote.Signature.{plain}
-use mathlib.Core.Bool.{false}
+use mathlib.Core.Bool.{true}
 use Rattle.sparse.specs.Lent.{outcome}
 use Rattle.state.specs.Memory.{memory}
 use Rattle.stepping.specs.Take.{lists}
 use Rattle.entering.specs.Enter.{enter_row}
 use Rattle.state.specs.declared.Counts.{Counts}
 use Rattle.entering.specs.declared.Entered.{Entered}
-use Rattle.state.specs.contracts.Counts as T
-use Rattle.state.proofs.Counts.TheLaws as T'
-use Rattle.entering.specs.contracts.Entered as O
-use Rattle.entering.proofs.Entered.TheLaws as O'
-use Rattle.entering.specs.contracts.Told as E
-use Rattle.entering.proofs.Told.TheLaws as E'
-use Rattle.entering.specs.contracts.step.enter as callee
-use Rattle.entering.proofs.step.enter.Symbol as callee-def
-use Rattle.entering.proofs.step.enter.Symbol.{name as #entering·step·enter}
-use Rattle.entering.proofs.step.enter.Met as callee-thm
-use Rattle.entering.specs.contracts.add_row.Key.{name as #entering·add-row}
-use Rattle.entering.specs.contracts.add_row as entry
-use Rattle.entering.proofs.add_row.Statement as stated
-use Rattle.entering.proofs.add_row.Code as code
+use Rattle.entering.proofs.step.enter_with_back_subs.Symbol.{name as #entering·step·enter-with-back-subs}
+use Rattle.entering.proofs.add_row_with_back_subs.Goals as goal
 
 abbrev stayed : Stays (entry.ended).signature.params (entry.ended).kept
 stayed = (stay_ref (0 ∷ []) tt (plain (λ _. T.the_row)), (stay_none_slice (1 ∷ []) tt (plain (λ _. u32)) yes, (stay_none_slice (2 ∷ []) tt (plain (λ _. u32)) yes, (gave_slice (3 ∷ []) tt (plain (λ _. u32)), (gave_slice (4 ∷ []) tt (plain (λ _. u32)), (gave_slice (5 ∷ []) tt (plain (λ _. u32)), (gave_slice (6 ∷ []) tt (plain (λ _. usize)), (gave_slice (7 ∷ []) tt (plain (λ _. u32)), (gave_slice (8 ∷ []) tt (plain (λ _. u32)), (gave_slice (9 ∷ []) tt (plain (λ _. usize)), (gave_slice (10 ∷ []) tt (plain (λ _. u32)), tt)))))))))))
@@ -69,11 +52,11 @@ abbrev Step : {M : Type 1} {𝓤 : Ura M} (𝓛 : Logic 𝓤) (mem : Memory → 
 Step 𝓛 mem run = triple_of 𝓛 callee.signature (callee.spec 𝓛 mem run)
 
 -- the parts of a result that is owned
-is-counts : (r : Entered) (w : Val) → Is O.the_row r (w ∷ []) → Is T.the_row r.counts (LL.vals T.the_type T'.the_laws r.counts)
-is-counts r w is = (LL.owed O.the_type O'.the_laws r (w ∷ []) is).0
+is_counts : (r : Entered) (w : Val) → Is O.the_row r (w ∷ []) → Is T.the_row r.counts (LL.vals T.the_type T'.the_laws r.counts)
+is_counts r w is = (LL.owed O.the_type O'.the_laws r (w ∷ []) is).0
 
-is-answer : (r : Entered) (w : Val) → Is O.the_row r (w ∷ []) → Is E.the_row r.told (EL.vals E.the_type E'.the_laws r.told)
-is-answer r w is = (LL.owed O.the_type O'.the_laws r (w ∷ []) is).1.0
+is_answer : (r : Entered) (w : Val) → Is O.the_row r (w ∷ []) → Is E.the_row r.told (EL.vals E.the_type E'.the_laws r.told)
+is_answer r w is = (LL.owed O.the_type O'.the_laws r (w ∷ []) is).1.0
 
 module _ {M : Type 1} {𝓤 : Ura M} (𝓛 : Logic 𝓤) (at_mem : Memory → SProp 𝓤) (run : Routine → Fun 𝓤) (κ : Lft) (q : Share) (b o : ℕ) (γ : GName) (h : Counts) (κ1 : Lft) (q1 : Share) (b1 o1 : ℕ) (γ1 : GName) (ys1 : List ℕ) (room1 : Room u32 (length ys1)) (κ2 : Lft) (q2 : Share) (b2 o2 : ℕ) (γ2 : GName) (ys2 : List ℕ) (room2 : Room u32 (length ys2)) (κ3 : Lft) (q3 : Share) (b3 o3 : ℕ) (γ3 : GName) (ys3 : List ℕ) (room3 : Room u32 (length ys3)) (κ4 : Lft) (q4 : Share) (b4 o4 : ℕ) (γ4 : GName) (ys4 : List ℕ) (room4 : Room u32 (length ys4)) (κ5 : Lft) (q5 : Share) (b5 o5 : ℕ) (γ5 : GName) (ys5 : List ℕ) (room5 : Room u32 (length ys5)) (κ6 : Lft) (q6 : Share) (b6 o6 : ℕ) (γ6 : GName) (ys6 : List ℕ) (room6 : Room usize (length ys6)) (κ7 : Lft) (q7 : Share) (b7 o7 : ℕ) (γ7 : GName) (ys7 : List ℕ) (room7 : Room u32 (length ys7)) (κ8 : Lft) (q8 : Share) (b8 o8 : ℕ) (γ8 : GName) (ys8 : List ℕ) (room8 : Room u32 (length ys8)) (κ9 : Lft) (q9 : Share) (b9 o9 : ℕ) (γ9 : GName) (ys9 : List ℕ) (room9 : Room usize (length ys9)) (κ10 : Lft) (q10 : Share) (b10 o10 : ℕ) (γ10 : GName) (ys10 : List ℕ) (room10 : Room u32 (length ys10)) where
   open 𝓛 use {H}
@@ -159,14 +142,14 @@ module _ {M : Type 1} {𝓤 : Ura M} (𝓛 : Logic 𝓤) (at_mem : Memory → SP
   goes : Is T.the_row h (mach ∷ []) → ent 𝓤 (⋆ 𝓛 ((((((((((((‵ (flft κ1 q1) ⊛ ‵ (flft κ2 q2) ⊛ ‵ (flft κ3 q3) ⊛ ‵ (flft κ4 q4) ⊛ ‵ (flft κ5 q5) ⊛ ‵ (flft κ6 q6) ⊛ ‵ (flft κ7 q7) ⊛ ‵ (flft κ8 q8) ⊛ ‵ (flft κ9 q9) ⊛ ‵ (flft κ10 q10) ⊛ ‵ ftrue) ⊛ ‵ ((ShrSlice (named 1) κ1 u32).own_val x1 (m1 ∷ []))) ⊛ ‵ ((ShrSlice (named 2) κ2 u32).own_val x2 (m2 ∷ []))) ⊛ ‵ ((MutSlice (named 3) κ3 u32).own_val x3 (m3 ∷ []))) ⊛ ‵ ((MutSlice (named 4) κ4 u32).own_val x4 (m4 ∷ []))) ⊛ ‵ ((MutSlice (named 5) κ5 u32).own_val x5 (m5 ∷ []))) ⊛ ‵ ((MutSlice (named 6) κ6 usize).own_val x6 (m6 ∷ []))) ⊛ ‵ ((MutSlice (named 7) κ7 u32).own_val x7 (m7 ∷ []))) ⊛ ‵ ((MutSlice (named 8) κ8 u32).own_val x8 (m8 ∷ []))) ⊛ ‵ ((MutSlice (named 9) κ9 usize).own_val x9 (m9 ∷ []))) ⊛ ‵ ((MutSlice (named 10) κ10 u32).own_val x10 (m10 ∷ []))) ∷ [])) ((Step 𝓛 at_mem run).pre to_step)
   goes g = qed 𝓛 ((((((((((((‵ (flft κ1 q1) ⊛ ‵ (flft κ2 q2) ⊛ ‵ (flft κ3 q3) ⊛ ‵ (flft κ4 q4) ⊛ ‵ (flft κ5 q5) ⊛ ‵ (flft κ6 q6) ⊛ ‵ (flft κ7 q7) ⊛ ‵ (flft κ8 q8) ⊛ ‵ (flft κ9 q9) ⊛ ‵ (flft κ10 q10) ⊛ ‵ ftrue) ⊛ ‵ ((ShrSlice (named 1) κ1 u32).own_val x1 (m1 ∷ []))) ⊛ ‵ ((ShrSlice (named 2) κ2 u32).own_val x2 (m2 ∷ []))) ⊛ ‵ ((MutSlice (named 3) κ3 u32).own_val x3 (m3 ∷ []))) ⊛ ‵ ((MutSlice (named 4) κ4 u32).own_val x4 (m4 ∷ []))) ⊛ ‵ ((MutSlice (named 5) κ5 u32).own_val x5 (m5 ∷ []))) ⊛ ‵ ((MutSlice (named 6) κ6 usize).own_val x6 (m6 ∷ []))) ⊛ ‵ ((MutSlice (named 7) κ7 u32).own_val x7 (m7 ∷ []))) ⊛ ‵ ((MutSlice (named 8) κ8 u32).own_val x8 (m8 ∷ []))) ⊛ ‵ ((MutSlice (named 9) κ9 usize).own_val x9 (m9 ∷ []))) ⊛ ‵ ((MutSlice (named 10) κ10 u32).own_val x10 (m10 ∷ []))) ∷ []) ∵ split ! $ split ! $ split ! $ split ! $ split ! $ split ! $ split ! $ split ! $ split ! $ split ! $ nothing ! $ move ! (11 ∷ 0 ∷ []) $ fjoin ! $ move ! (10 ∷ 0 ∷ []) $ fjoin ! $ move ! (9 ∷ 0 ∷ []) $ fjoin ! $ move ! (8 ∷ 0 ∷ []) $ fjoin ! $ move ! (7 ∷ 0 ∷ []) $ fjoin ! $ move ! (6 ∷ 0 ∷ []) $ fjoin ! $ move ! (5 ∷ 0 ∷ []) $ fjoin ! $ move ! (4 ∷ 0 ∷ []) $ fjoin ! $ move ! (3 ∷ 0 ∷ []) $ fjoin ! $ move ! (2 ∷ 0 ∷ []) $ fjoin ! $ owned ! T.the_row (Is T.the_row) (LL.makes T.the_type T'.the_plain 𝓛) h _ g $ fjoin ! $ move ! (1 ∷ 0 ∷ []) $ join ! $ frame ! $ done !
 
-  exits : (r : Entered) → Is E.the_row r.told (EL.vals E.the_type E'.the_laws r.told) → (z3 : List ℕ) (z4 : List ℕ) (z5 : List ℕ) (z6 : List ℕ) (z7 : List ℕ) (z8 : List ℕ) (z9 : List ℕ) (z10 : List ℕ) → outcome (r) (lists (memory (z4) (z5) (z6) (z7) (z8) (z9) (z10)) (z3)) ≡ enter_row false (h) (ys1) (ys2) (lists (memory (ys4) (ys5) (ys6) (ys7) (ys8) (ys9) (ys10)) (ys3)) → length z3 ≡ length ys3 → length z4 ≡ length ys4 → length z5 ≡ length ys5 → length z6 ≡ length ys6 → length z7 ≡ length ys7 → length z8 ≡ length ys8 → length z9 ≡ length ys9 → length z10 ≡ length ys10
+  exits : (r : Entered) → Is E.the_row r.told (EL.vals E.the_type E'.the_laws r.told) → (z3 : List ℕ) (z4 : List ℕ) (z5 : List ℕ) (z6 : List ℕ) (z7 : List ℕ) (z8 : List ℕ) (z9 : List ℕ) (z10 : List ℕ) → outcome (r) (lists (memory (z4) (z5) (z6) (z7) (z8) (z9) (z10)) (z3)) ≡ enter_row true (h) (ys1) (ys2) (lists (memory (ys4) (ys5) (ys6) (ys7) (ys8) (ys9) (ys10)) (ys3)) → length z3 ≡ length ys3 → length z4 ≡ length ys4 → length z5 ≡ length ys5 → length z6 ≡ length ys6 → length z7 ≡ length ys7 → length z8 ≡ length ys8 → length z9 ≡ length ys9 → length z10 ≡ length ys10
       → ent 𝓤 (⋆ 𝓛 (‵ (fobs γ ((T.the_row).coded.code r.counts)) ∷ ‵ (fbor κ (Body (mem T.the_row) b o γ)) ∷ ‵ (flft κ q) ∷ (‵ (flft κ1 q1) ⊛ ‵ (flft κ2 q2) ⊛ ‵ (flft κ3 q3) ⊛ ‵ (flft κ4 q4) ⊛ ‵ (flft κ5 q5) ⊛ ‵ (flft κ6 q6) ⊛ ‵ (flft κ7 q7) ⊛ ‵ (flft κ8 q8) ⊛ ‵ (flft κ9 q9) ⊛ ‵ (flft κ10 q10) ⊛ ‵ ftrue) ∷ ‵ ((ShrSlice (named 1) κ1 u32).own_val x1 (m1 ∷ [])) ∷ ‵ ((ShrSlice (named 2) κ2 u32).own_val x2 (m2 ∷ [])) ∷ ‵ (finally u32 γ3 z3) ∷ ‵ (finally u32 γ4 z4) ∷ ‵ (finally u32 γ5 z5) ∷ ‵ (finally usize γ6 z6) ∷ ‵ (finally u32 γ7 z7) ∷ ‵ (finally u32 γ8 z8) ∷ ‵ (finally usize γ9 z9) ∷ ‵ (finally u32 γ10 z10) ∷ [])) (Post (EL.val E.the_type E'.the_laws r.told))
   exits r ia z3 z4 z5 z6 z7 z8 z9 z10 e e3 e4 e5 e6 e7 e8 e9 e10 =
       qed 𝓛 (‵ (fobs γ ((T.the_row).coded.code r.counts)) ∷ ‵ (fbor κ (Body (mem T.the_row) b o γ)) ∷ ‵ (flft κ q) ∷ (‵ (flft κ1 q1) ⊛ ‵ (flft κ2 q2) ⊛ ‵ (flft κ3 q3) ⊛ ‵ (flft κ4 q4) ⊛ ‵ (flft κ5 q5) ⊛ ‵ (flft κ6 q6) ⊛ ‵ (flft κ7 q7) ⊛ ‵ (flft κ8 q8) ⊛ ‵ (flft κ9 q9) ⊛ ‵ (flft κ10 q10) ⊛ ‵ ftrue) ∷ ‵ ((ShrSlice (named 1) κ1 u32).own_val x1 (m1 ∷ [])) ∷ ‵ ((ShrSlice (named 2) κ2 u32).own_val x2 (m2 ∷ [])) ∷ ‵ (finally u32 γ3 z3) ∷ ‵ (finally u32 γ4 z4) ∷ ‵ (finally u32 γ5 z5) ∷ ‵ (finally usize γ6 z6) ∷ ‵ (finally u32 γ7 z7) ∷ ‵ (finally u32 γ8 z8) ∷ ‵ (finally usize γ9 z9) ∷ ‵ (finally u32 γ10 z10) ∷ []) ∵
       suffices ! _ (ends_at 𝓛 entry.ended stayed (entry.clauses 𝓛 at_mem run) (((κ, (κ1, (κ2, (κ3, (κ4, (κ5, (κ6, (κ7, (κ8, (κ9, (κ10, tt))))))))))), (q, (q1, (q2, (q3, (q4, (q5, (q6, (q7, (q8, (q9, (q10, tt))))))))))), tt, a, vals), tt) (EL.val E.the_type E'.the_laws r.told) r.told (r.counts, (tt, (tt, (z3, (z4, (z5, (z6, (z7, (z8, (z9, (z10, tt))))))))))) (tt, (tt, (tt, (e3, (e4, (e5, (e6, (e7, (e8, (e9, (e10, tt)))))))))))) $
       says ! e $ move ! (2 ∷ 3 ∷ []) $ join ! $ frame ! $ feq_i ! (List Val) (vptr b o ∷ []) (vptr b o ∷ []) refl $ fjoin3 ! $ nothing ! $ move ! (11 ∷ 0 ∷ []) $ fjoin ! $ move ! (10 ∷ 0 ∷ []) $ fjoin ! $ move ! (9 ∷ 0 ∷ []) $ fjoin ! $ move ! (8 ∷ 0 ∷ []) $ fjoin ! $ move ! (7 ∷ 0 ∷ []) $ fjoin ! $ move ! (6 ∷ 0 ∷ []) $ fjoin ! $ move ! (5 ∷ 0 ∷ []) $ fjoin ! $ move ! (4 ∷ 0 ∷ []) $ fjoin ! $ move ! (3 ∷ 0 ∷ []) $ fjoin ! $ move ! (2 ∷ 0 ∷ []) $ fjoin ! $ move ! (1 ∷ 0 ∷ []) $ fjoin ! $ owned ! E.the_row (Is E.the_row) (EL.makes E.the_type E'.the_plain 𝓛) r.told _ ia $ move ! (1 ∷ 0 ∷ []) $ done !
 
-  module _ (C : Calls 𝓤 H) (Λ : Loops 𝓤 H) (fm : FmC 𝓤 H 𝓛.laws C) (known : Triple 𝓤 (C #entering·step·enter) (Step 𝓛 at_mem run)) where
+  module _ (C : Calls 𝓤 H) (Λ : Loops 𝓤 H) (fm : FmC 𝓤 H 𝓛.laws C) (known : Triple 𝓤 (C #entering·step·enter-with-back-subs) (Step 𝓛 at_mem run)) where
     walk : ent 𝓤 (on_entry 𝓛 entry.signature (κ, (κ1, (κ2, (κ3, (κ4, (κ5, (κ6, (κ7, (κ8, (κ9, (κ10, tt))))))))))) (q, (q1, (q2, (q3, (q4, (q5, (q6, (q7, (q8, (q9, (q10, tt))))))))))) a vals) (WpFn 𝓤 H C Λ code.function (vptr b o ∷ m1 ∷ m2 ∷ m3 ∷ m4 ∷ m5 ∷ m6 ∷ m7 ∷ m8 ∷ m9 ∷ m10 ∷ []) Post)
     walk =
         qed 𝓛 ((‵ (flft κ q) ⊛ ‵ (flft κ1 q1) ⊛ ‵ (flft κ2 q2) ⊛ ‵ (flft κ3 q3) ⊛ ‵ (flft κ4 q4) ⊛ ‵ (flft κ5 q5) ⊛ ‵ (flft κ6 q6) ⊛ ‵ (flft κ7 q7) ⊛ ‵ (flft κ8 q8) ⊛ ‵ (flft κ9 q9) ⊛ ‵ (flft κ10 q10) ⊛ ‵ ftrue) ∷ ‵ (owns (MutRef (named 0) κ T.the_row ∷ ShrSlice (named 1) κ1 u32 ∷ ShrSlice (named 2) κ2 u32 ∷ MutSlice (named 3) κ3 u32 ∷ MutSlice (named 4) κ4 u32 ∷ MutSlice (named 5) κ5 u32 ∷ MutSlice (named 6) κ6 usize ∷ MutSlice (named 7) κ7 u32 ∷ MutSlice (named 8) κ8 u32 ∷ MutSlice (named 9) κ9 usize ∷ MutSlice (named 10) κ10 u32 ∷ []) a vals) ∷ []) ∵
@@ -227,10 +210,10 @@ module _ {M : Type 1} {𝓤 : Ura M} (𝓛 : Logic 𝓤) (at_mem : Memory → SP
         use1 𝓛 (later (some (λ (r : Entered). ((‵ (flft κ1 q1) ⊛ ‵ (flft κ2 q2) ⊛ ‵ (flft κ3 q3) ⊛ ‵ (flft κ4 q4) ⊛ ‵ (flft κ5 q5) ⊛ ‵ (flft κ6 q6) ⊛ ‵ (flft κ7 q7) ⊛ ‵ (flft κ8 q8) ⊛ ‵ (flft κ9 q9) ⊛ ‵ (flft κ10 q10) ⊛ ‵ ftrue) ⊛ ‵ ((O.the_row).own_val r (w ∷ []))) ⊛ raw (ensured 𝓛 callee.ended (callee.clauses 𝓛 at_mem run) (κ1, (κ2, (κ3, (κ4, (κ5, (κ6, (κ7, (κ8, (κ9, (κ10, tt)))))))))) (h, (x1, (x2, (x3, (x4, (x5, (x6, (x7, (x8, (x9, (x10, tt))))))))))) tt r)))) (id⊢ 𝓤 _) $ await ! tt $ pick ! (λ r.
         split ! $
         move ! (1 ∷ []) $
-        use1 𝓛 (some (λ (zs : Unit {0} × (Unit {0} × (Unit {0} × (List ℕ × (List ℕ × (List ℕ × (List ℕ × (List ℕ × (List ℕ × (List ℕ × (List ℕ × Unit {0}))))))))))). ‵ (lasts callee.ended (κ1, (κ2, (κ3, (κ4, (κ5, (κ6, (κ7, (κ8, (κ9, (κ10, tt)))))))))) (h, (x1, (x2, (x3, (x4, (x5, (x6, (x7, (x8, (x9, (x10, tt))))))))))) zs) ⊛ raw (fact 𝓤 (outcome (r) (lists (memory zs.1.1.1.1.0 zs.1.1.1.1.1.0 zs.1.1.1.1.1.1.0 zs.1.1.1.1.1.1.1.0 zs.1.1.1.1.1.1.1.1.0 zs.1.1.1.1.1.1.1.1.1.0 zs.1.1.1.1.1.1.1.1.1.1.0) zs.1.1.1.0) ≡ enter_row false (h) (ys1) (ys2) (lists (memory (ys4) (ys5) (ys6) (ys7) (ys8) (ys9) (ys10)) (ys3)))))) (id⊢ 𝓤 _) $ pick ! (λ zs.
+        use1 𝓛 (some (λ (zs : Unit {0} × (Unit {0} × (Unit {0} × (List ℕ × (List ℕ × (List ℕ × (List ℕ × (List ℕ × (List ℕ × (List ℕ × (List ℕ × Unit {0}))))))))))). ‵ (lasts callee.ended (κ1, (κ2, (κ3, (κ4, (κ5, (κ6, (κ7, (κ8, (κ9, (κ10, tt)))))))))) (h, (x1, (x2, (x3, (x4, (x5, (x6, (x7, (x8, (x9, (x10, tt))))))))))) zs) ⊛ raw (fact 𝓤 (outcome (r) (lists (memory zs.1.1.1.1.0 zs.1.1.1.1.1.0 zs.1.1.1.1.1.1.0 zs.1.1.1.1.1.1.1.0 zs.1.1.1.1.1.1.1.1.0 zs.1.1.1.1.1.1.1.1.1.0 zs.1.1.1.1.1.1.1.1.1.1.0) zs.1.1.1.0) ≡ enter_row true (h) (ys1) (ys2) (lists (memory (ys4) (ys5) (ys6) (ys7) (ys8) (ys9) (ys10)) (ys3)))))) (id⊢ 𝓤 _) $ pick ! (λ zs.
         split ! $
         move ! (1 ∷ []) $
-        heard ! (outcome (r) (lists (memory zs.1.1.1.1.0 zs.1.1.1.1.1.0 zs.1.1.1.1.1.1.0 zs.1.1.1.1.1.1.1.0 zs.1.1.1.1.1.1.1.1.0 zs.1.1.1.1.1.1.1.1.1.0 zs.1.1.1.1.1.1.1.1.1.1.0) zs.1.1.1.0) ≡ enter_row false (h) (ys1) (ys2) (lists (memory (ys4) (ys5) (ys6) (ys7) (ys8) (ys9) (ys10)) (ys3))) (λ e.
+        heard ! (outcome (r) (lists (memory zs.1.1.1.1.0 zs.1.1.1.1.1.0 zs.1.1.1.1.1.1.0 zs.1.1.1.1.1.1.1.0 zs.1.1.1.1.1.1.1.1.0 zs.1.1.1.1.1.1.1.1.1.0 zs.1.1.1.1.1.1.1.1.1.1.0) zs.1.1.1.0) ≡ enter_row true (h) (ys1) (ys2) (lists (memory (ys4) (ys5) (ys6) (ys7) (ys8) (ys9) (ys10)) (ys3))) (λ e.
         fsplit ! $ drop ! $
         fsplit ! $ drop ! $
         fsplit ! $ drop ! $
@@ -271,9 +254,9 @@ module _ {M : Type 1} {𝓤 : Ura M} (𝓛 : Logic 𝓤) (at_mem : Memory → SP
         peeks ! O.the_row (Is O.the_row) (shows 𝓛 O.the_row) r (w ∷ []) (λ is.
         land ! (from ! (stop !)) (init ! 53 refl ((LL.lawful O.the_type O'.the_laws 𝓛).typed r _ is).0) $
         rewrite ! 53 (λ (u : Val). ‵ (fat full_share O'.mir l12 0 u)) (ap only (LL.tells O.the_type O'.the_laws r (w ∷ []) is)) refl $
-        assigns ! (of_opd ! (load ! (from ! (fld ! refl (stop !))) (look_in ! 53 (sub ! 0 refl (whole !))))) (from ! (hop ! (look ! 75 refl) (stop !))) (store_raw ! 12 refl ((LL.lawful T.the_type T'.the_laws 𝓛).typed r.counts _ (is-counts r w is)).0) $
-        assigns ! (of_opd ! (load ! (from ! (fld ! refl (stop !))) (look_in ! 53 (sub ! 1 refl (whole !))))) (from ! (stop !)) (init ! 77 refl ((EL.lawful E.the_type E'.the_laws 𝓛 tt).typed r.told _ (is-answer r w is)).0) $
-        owned ! T.the_row (Is T.the_row) (LL.makes T.the_type T'.the_plain 𝓛) r.counts _ (is-counts r w is) $
+        assigns ! (of_opd ! (load ! (from ! (fld ! refl (stop !))) (look_in ! 53 (sub ! 0 refl (whole !))))) (from ! (hop ! (look ! 75 refl) (stop !))) (store_raw ! 12 refl ((LL.lawful T.the_type T'.the_laws 𝓛).typed r.counts _ (is_counts r w is)).0) $
+        assigns ! (of_opd ! (load ! (from ! (fld ! refl (stop !))) (look_in ! 53 (sub ! 1 refl (whole !))))) (from ! (stop !)) (init ! 77 refl ((EL.lawful E.the_type E'.the_laws 𝓛 tt).typed r.told _ (is_answer r w is)).0) $
+        owned ! T.the_row (Is T.the_row) (LL.makes T.the_type T'.the_plain 𝓛) r.counts _ (is_counts r w is) $
         move ! (13 ∷ 0 ∷ 14 ∷ 15 ∷ 16 ∷ []) $
         closes ! tt T.the_row r.counts (LL.vals T.the_type T'.the_laws r.counts) b o $
         returns ! (look ! 76 refl) $ forget ! 76 refl $ forget ! 74 refl $ forget ! 72 refl $ forget ! 70 refl $ forget ! 68 refl $ forget ! 66 refl $ forget ! 64 refl $ forget ! 62 refl $ forget ! 60 refl $ forget ! 58 refl $ forget ! 56 refl $ forget ! 54 refl $ forget ! 52 refl $ forget ! 50 refl $ forget ! 48 refl $ forget ! 46 refl $ forget ! 44 refl $ forget ! 42 refl $ forget ! 40 refl $ forget ! 38 refl $ forget ! 36 refl $ forget ! 34 refl $ forget ! 32 refl $ forget ! 30 refl $ forget ! 28 refl $ forget ! 26 refl $ forget ! 24 refl $ forget ! 22 refl $ forget ! 20 refl $ forget ! 18 refl $
@@ -338,26 +321,17 @@ module _ {M : Type 1} {𝓤 : Ura M} (𝓛 : Logic 𝓤) (at_mem : Memory → SP
         move ! (18 ∷ 19 ∷ []) $
         free1 ! $
         free0 ! $
-        keep ! (0 ∷ 1 ∷ 2 ∷ 4 ∷ 17 ∷ 16 ∷ 13 ∷ 12 ∷ 11 ∷ 10 ∷ 9 ∷ 8 ∷ 7 ∷ 5 ∷ []) $ by ! (exits r (is-answer r w is) zs.1.1.1.0 zs.1.1.1.1.0 zs.1.1.1.1.1.0 zs.1.1.1.1.1.1.0 zs.1.1.1.1.1.1.1.0 zs.1.1.1.1.1.1.1.1.0 zs.1.1.1.1.1.1.1.1.1.0 zs.1.1.1.1.1.1.1.1.1.1.0 e e3 e4 e5 e6 e7 e8 e9 e10))))))))))))))))))))))))))))))))))))))))))))))
+        keep ! (0 ∷ 1 ∷ 2 ∷ 4 ∷ 17 ∷ 16 ∷ 13 ∷ 12 ∷ 11 ∷ 10 ∷ 9 ∷ 8 ∷ 7 ∷ 5 ∷ []) $ by ! (exits r (is_answer r w is) zs.1.1.1.0 zs.1.1.1.1.0 zs.1.1.1.1.1.0 zs.1.1.1.1.1.1.0 zs.1.1.1.1.1.1.1.0 zs.1.1.1.1.1.1.1.1.0 zs.1.1.1.1.1.1.1.1.1.0 zs.1.1.1.1.1.1.1.1.1.1.0 e e3 e4 e5 e6 e7 e8 e9 e10))))))))))))))))))))))))))))))))))))))))))))))
 
 module _ {M : Type 1} {𝓤 : Ura M} (𝓛 : Logic 𝓤) (mem : Memory → SProp 𝓤) (run : Routine → Fun 𝓤) where
   open 𝓛 use {H}
 
-  entry-walks : (C : Calls 𝓤 H) (Λ : Loops 𝓤 H) → FmC 𝓤 H 𝓛.laws C → Triple 𝓤 (C #entering·step·enter) (Step 𝓛 mem run) → Walks 𝓛 entry.ended stayed (WpFn 𝓤 H C Λ code.function) (entry.clauses 𝓛 mem run)
+  entry-walks : (C : Calls 𝓤 H) (Λ : Loops 𝓤 H) → FmC 𝓤 H 𝓛.laws C → Triple 𝓤 (C #entering·step·enter-with-back-subs) (Step 𝓛 mem run) → Walks 𝓛 entry.ended stayed (WpFn 𝓤 H C Λ code.function) (entry.clauses 𝓛 mem run)
   entry-walks C Λ fm known = walked 𝓛 entry.ended stayed (entry.clauses 𝓛 mem run) (WpFn 𝓤 H C Λ code.function) (λ κs. (mut_vals, (shr_slice_vals, (shr_slice_vals, (mut_slice_vals, (mut_slice_vals, (mut_slice_vals, (mut_slice_vals, (mut_slice_vals, (mut_slice_vals, (mut_slice_vals, (mut_slice_vals, tt)))))))))))) (λ κs. (mut_Tells (named 0) κs.0 T.the_row, (shr_slice_Tells (named 1) κs.1.0 u32, (shr_slice_Tells (named 2) κs.1.1.0 u32, (mut_slice_Tells (named 3) κs.1.1.1.0 u32, (mut_slice_Tells (named 4) κs.1.1.1.1.0 u32, (mut_slice_Tells (named 5) κs.1.1.1.1.1.0 u32, (mut_slice_Tells (named 6) κs.1.1.1.1.1.1.0 usize, (mut_slice_Tells (named 7) κs.1.1.1.1.1.1.1.0 u32, (mut_slice_Tells (named 8) κs.1.1.1.1.1.1.1.1.0 u32, (mut_slice_Tells (named 9) κs.1.1.1.1.1.1.1.1.1.0 usize, (mut_slice_Tells (named 10) κs.1.1.1.1.1.1.1.1.1.1.0 u32, tt))))))))))))
       (λ κs qs bounds a g are. via 𝓤 _ (fst∗ 𝓤 _ (emp 𝓤))
       (walk 𝓛 mem run κs.0 qs.0 a.0.ref_ptr.0 a.0.ref_ptr.1 a.0.ghost_name a.0.now κs.1.0 qs.1.0 a.1.0.ref_ptr.0 a.1.0.ref_ptr.1 a.1.0.ghost_name a.1.0.now are.1.0.0.1 κs.1.1.0 qs.1.1.0 a.1.1.0.ref_ptr.0 a.1.1.0.ref_ptr.1 a.1.1.0.ghost_name a.1.1.0.now are.1.1.0.0.1 κs.1.1.1.0 qs.1.1.1.0 a.1.1.1.0.ref_ptr.0 a.1.1.1.0.ref_ptr.1 a.1.1.1.0.ghost_name a.1.1.1.0.now are.1.1.1.0.0.1 κs.1.1.1.1.0 qs.1.1.1.1.0 a.1.1.1.1.0.ref_ptr.0 a.1.1.1.1.0.ref_ptr.1 a.1.1.1.1.0.ghost_name a.1.1.1.1.0.now are.1.1.1.1.0.0.1 κs.1.1.1.1.1.0 qs.1.1.1.1.1.0 a.1.1.1.1.1.0.ref_ptr.0 a.1.1.1.1.1.0.ref_ptr.1 a.1.1.1.1.1.0.ghost_name a.1.1.1.1.1.0.now are.1.1.1.1.1.0.0.1 κs.1.1.1.1.1.1.0 qs.1.1.1.1.1.1.0 a.1.1.1.1.1.1.0.ref_ptr.0 a.1.1.1.1.1.1.0.ref_ptr.1 a.1.1.1.1.1.1.0.ghost_name a.1.1.1.1.1.1.0.now are.1.1.1.1.1.1.0.0.1 κs.1.1.1.1.1.1.1.0 qs.1.1.1.1.1.1.1.0 a.1.1.1.1.1.1.1.0.ref_ptr.0 a.1.1.1.1.1.1.1.0.ref_ptr.1 a.1.1.1.1.1.1.1.0.ghost_name a.1.1.1.1.1.1.1.0.now are.1.1.1.1.1.1.1.0.0.1 κs.1.1.1.1.1.1.1.1.0 qs.1.1.1.1.1.1.1.1.0 a.1.1.1.1.1.1.1.1.0.ref_ptr.0 a.1.1.1.1.1.1.1.1.0.ref_ptr.1 a.1.1.1.1.1.1.1.1.0.ghost_name a.1.1.1.1.1.1.1.1.0.now are.1.1.1.1.1.1.1.1.0.0.1 κs.1.1.1.1.1.1.1.1.1.0 qs.1.1.1.1.1.1.1.1.1.0 a.1.1.1.1.1.1.1.1.1.0.ref_ptr.0 a.1.1.1.1.1.1.1.1.1.0.ref_ptr.1 a.1.1.1.1.1.1.1.1.1.0.ghost_name a.1.1.1.1.1.1.1.1.1.0.now are.1.1.1.1.1.1.1.1.1.0.0.1 κs.1.1.1.1.1.1.1.1.1.1.0 qs.1.1.1.1.1.1.1.1.1.1.0 a.1.1.1.1.1.1.1.1.1.1.0.ref_ptr.0 a.1.1.1.1.1.1.1.1.1.1.0.ref_ptr.1 a.1.1.1.1.1.1.1.1.1.1.0.ghost_name a.1.1.1.1.1.1.1.1.1.1.0.now are.1.1.1.1.1.1.1.1.1.1.0.0.1 C Λ fm known))
 
-entry-meets : {M : Type 1} {𝓤 : Ura M} (𝓛 : Logic 𝓤) → (mem : Memory → SProp 𝓤) (run : Routine → Fun 𝓤) (𝓣 : Tables 𝓤 𝓛.H) → Triple 𝓤 (𝓣.C #entering·step·enter) (Step 𝓛 mem run)
-    → Meets 𝓛 entry.signature (WpFn 𝓤 𝓛.H 𝓣.C 𝓣.Λ code.function) (entry.spec 𝓛 mem run)
-entry-meets {𝓤 = 𝓤} 𝓛 mem run 𝓣 known =
+entry_meets : {M : Type 1} {𝓤 : Ura M} (𝓛 : Logic 𝓤) → (mem : Memory → SProp 𝓤) (run : Routine → Fun 𝓤) (𝓣 : Tables 𝓤 𝓛.H) → Triple 𝓤 (𝓣.C #entering·step·enter-with-back-subs) (Step 𝓛 mem run) → Meets 𝓛 entry.signature (WpFn 𝓤 𝓛.H 𝓣.C 𝓣.Λ code.function) (entry.spec 𝓛 mem run)
+entry_meets {𝓤 = 𝓤} 𝓛 mem run 𝓣 known =
     walk_Meets 𝓛 entry.ended stayed (Goes-ref 𝓛 11 0 tt (plain (λ _. T.the_row)), (Goes-none_slice 𝓛 11 (1 ∷ []) tt (plain (λ _. u32)) yes, (Goes-none_slice 𝓛 11 (2 ∷ []) tt (plain (λ _. u32)) yes, (Goes-gave_slice 𝓛 11 3 tt (plain (λ _. u32)), (Goes-gave_slice 𝓛 11 4 tt (plain (λ _. u32)), (Goes-gave_slice 𝓛 11 5 tt (plain (λ _. u32)), (Goes-gave_slice 𝓛 11 6 tt (plain (λ _. usize)), (Goes-gave_slice 𝓛 11 7 tt (plain (λ _. u32)), (Goes-gave_slice 𝓛 11 8 tt (plain (λ _. u32)), (Goes-gave_slice 𝓛 11 9 tt (plain (λ _. usize)), (Goes-gave_slice 𝓛 11 10 tt (plain (λ _. u32)), tt))))))))))) (entry.clauses 𝓛 mem run)
     (WpFn 𝓤 𝓛.H 𝓣.C 𝓣.Λ code.function) (WpFn-mono 𝓤 𝓛.H 𝓛.laws 𝓣 code.function) (entry-walks 𝓛 mem run 𝓣.C 𝓣.Λ (fm_of 𝓤 𝓛.H 𝓛.laws 𝓣) known)
-
-pub add-row-spec : {M : Type 1} → stated.statement M
-unfolding code.routine tables_of
-add-row-spec 𝓤 𝓛 𝓜 𝓡 =
-    entered 𝓤 𝓛.H (triple_of 𝓛 entry.signature (entry.spec 𝓛 𝓜.mem 𝓡.run))
-    (tables 𝓤 𝓛.H 𝓜 𝓡 code.env).C (tables 𝓤 𝓛.H 𝓜 𝓡 code.env).Λ #entering·add-row code.function (code.unfolded 𝓤 𝓛.H 𝓜 𝓡)
-    (entry-meets 𝓛 𝓜.mem 𝓡.run (tables_of 𝓤 𝓛.H 𝓜 (tables 𝓤 𝓛.H 𝓜 𝓡 code.env))
-    (cited 𝓤 𝓛.H (Step 𝓛 𝓜.mem 𝓡.run) 𝓜 𝓡 code.env #entering·step·enter callee-def.routine code.calls-entering::step::enter (callee-thm.met 𝓤 𝓛 𝓜 𝓡)))
