@@ -16,7 +16,6 @@ use Rattle.sparse.specs.Put.{cols_of, values_of, put_rows}
 use Rattle.sparse.specs.Rows.{Entry, offset}
 use Rattle.state.specs.Memory.{Memory, memory}
 use Rattle.state.specs.declared.Counts.{Counts}
-use Rattle.walk.specs.Step as S
 use Rattle.writing.proofs.Writing.{writing_all, cols_keep, vals_keep, ptrs_keep}
 use Rattle.stepping.specs.Take.{cleared}
 use Rattle.stepping.proofs.Clears.{cleared_zero}
@@ -25,7 +24,6 @@ use Rattle.reduced.proofs.Builds.{finished_long}
 use Rattle.backing.specs.Asks.{numbers_down, ordered, Builds}
 use Rattle.backing.specs.Back.{down_row, back_rows, back_pivots, Backing, backing, backed}
 use Rattle.backing.proofs.Most.{entries_most}
-use Rattle.backing.proofs.Downs.{heads, modulus}
 use Rattle.backing.proofs.Fits.{begun, low_rank, numbers_many, rows_many, few, begun_long, room}
 use Rattle.backing.proofs.Fillings.{Filling, filling_start, filling_more}
 

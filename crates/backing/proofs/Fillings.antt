@@ -18,7 +18,7 @@ use Rattle.sparse.specs.Matrix.{row}
 use Rattle.sparse.specs.Pivots.{mark}
 use Rattle.meaning.proofs.Parts.{length_part}
 use Rattle.sparse.specs.Rows.{Entry, entries, row_at, offset}
-use Rattle.state.specs.Memory.{Memory, memory}
+use Rattle.state.specs.Memory.{Memory}
 use Rattle.state.specs.Fresh.{keeps}
 use Rattle.state.specs.State.{u_of}
 use Rattle.state.specs.declared.Counts.{Counts}

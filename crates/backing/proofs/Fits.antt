@@ -12,7 +12,6 @@ use lib.Dec.{ltb}
 use lib.ListN.{length, get_or, length-map}
 use lib.Seq.{take_all}
 use Rattle.lists.specs.Onto.{◌onto◌}
-use Rattle.lists.specs.Table.{table}
 use Rattle.lists.proofs.Ontos.{length-onto}
 use Rattle.lists.proofs.Tables.{length-table, get_or-table}
 use Rattle.sparse.specs.Lent.{Lent, lent, room_test}
@@ -22,7 +21,6 @@ use Rattle.sparse.proofs.Firsts.{refuse_good, neither}
 use Rattle.state.specs.Memory.{Memory}
 use Rattle.state.specs.declared.Counts.{Counts}
 use Rattle.walk.specs.Step.{pivot_at}
-use Rattle.walk.specs.Step as S
 use Rattle.steps.specs.Setting.{Inverts}
 use Rattle.writing.proofs.Writing.{Room, offset_more}
 use Rattle.reduced.specs.Building.{Falling, Built, finished}
@@ -31,7 +29,7 @@ use Rattle.reduced.proofs.Builds.{finished_built}
 use Rattle.reduced.proofs.Rooms.{built_few}
 use Rattle.backing.specs.Asks.{Orders, numbers_down, Builds}
 use Rattle.backing.specs.Back.{down_row, back_row, back_rows}
-use Rattle.backing.proofs.Downs.{modulus, inverts, rank_low, falling, many_down}
+use Rattle.backing.proofs.Downs.{inverts, rank_low, falling, many_down}
 
 -- the second U's memory once the order is written there
 abbrev pub begun : Counts → Memory → Lent → Lent

@@ -1,14 +1,11 @@
 -- The fold of rows, as a loop sees it: what is left of it, while the call goes on.
 -- Assumes nothing.
 use mathlib.Core.Path.{◌≡◌, refl, sym, ap, subst, ◌∙◌}
-use mathlib.Core.Logic.{inl, inr}
 use mathlib.Core.Bool.{Bool, true, false, ◌&&◌, cond}
 use mathlib.Core.List.{List, [], ◌∷◌}
-use Prim.Native.Nat.{ℕ, zero, suc, ◌+◌, ◌-◌, ◌≤◌, ◌<◌}
+use Prim.Native.Nat.{ℕ, suc, ◌+◌, ◌-◌, ◌≤◌, ◌<◌}
 use native.Mathlib.Omega.{arith}
 use native.Mathlib.Numerals.{add-one}
-use denote.Enum.Declared as Declared
-use types.Run.{OneOf}
 use lib.ListN.{length, drop}
 use lib.Seq.{drop-cons, drop-length}
 use Rattle.lists.proofs.Tables.{length-table}
@@ -33,7 +30,6 @@ use Rattle.telling.specs.declared.Reduced.TheVariants.{Taken, Dependent, Stopped
 use Rattle.telling.specs.declared.Run.{Run}
 use Rattle.stepping.proofs.MatrixRows.{row_here}
 use Rattle.running.proofs.Nexts.{next_offered}
-use Rattle.telling.specs.contracts.Reduced.{the_type}
 
 -- the call has ended
 unfoldable pub is_over : Reduced → Bool
@@ -42,15 +38,10 @@ is_over (Dependent r) = true
 is_over (Stopped s) = true
 is_over (Refused why) = true
 
-no_key : OneOf (1 ∷ 2 ∷ 3 ∷ []) 0 → ⊥
-no_key (inl e) = omega arith
-no_key (inr (inl e)) = omega arith
-no_key (inr (inr e)) = omega arith
-
 -- so says a `match` that finds another variant than Taken
-pub over_told : (x : Reduced) → OneOf (1 ∷ 2 ∷ 3 ∷ []) (Declared.tag_of the_type x) → is_over x ≡ true
+pub over_told : (x : Reduced) → ((r : Run) → x ≡ Taken r → ⊥) → is_over x ≡ true
 unfolding is_over
-over_told (Taken r) e = absurd (no_key e)
+over_told (Taken r) e = absurd (e r refl)
 over_told (Dependent r) e = refl
 over_told (Stopped s) e = refl
 over_told (Refused why) e = refl

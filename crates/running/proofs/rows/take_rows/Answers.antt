@@ -40,7 +40,7 @@ pub shape_of-pivots-in_default : goal.shape_of-pivots-in_default
 shape_of-pivots-in_default c = search (rules, c.loop-run.invariant.long.pivots)
 
 pub returns-in_default : goal.returns-in_default
-returns-in_default c = going_over c.loop-run.invariant c.loop-run-test.true c.next_row-next.ensures (over_told _ c.in-Taken.keys2)
+returns-in_default c = going_over c.loop-run.invariant c.loop-run-test.true c.next_row-next.ensures (over_told _ c.in_default.not-Taken)
 
 pub loop-run-smaller : goal.loop-run-smaller
 loop-run-smaller c = going_less c.loop-run.invariant c.loop-run-test.true c.next_row-next.ensures c.in-Taken.is
