@@ -1,7 +1,7 @@
 // A single row added to a reducer whose record of counts is lent and changed in place.
 //
-// For a caller that keeps the record in a struct of its own; its proof is a walk by hand. Everyone else,
-// and every function whose walk the check writes, calls `adding`: the record by value, the new one answered.
+// For a caller that keeps the record in a struct of its own. Everyone else calls `adding`: the record by
+// value, the new one answered.
 #![tactic(auto)]
 
 ghost use Rattle.std.specs.Prelude.{◌≡◌, true, false};
