@@ -1,28 +1,26 @@
 -- All rows of a matrix: what taking them asks for, and what it comes to.
 -- Assumes nothing.
 use mathlib.Core.Path.{◌≡◌, refl, sym, ap, ◌∙◌}
-use mathlib.Core.Bool.{Bool, false, not, ◌||◌}
-use mathlib.Core.List.{List, [], ◌∷◌, ◌++◌}
+use mathlib.Core.Bool.{Bool, ◌||◌}
+use mathlib.Core.List.{List, ◌++◌}
 use Prim.Native.Nat.{ℕ, ◌≤◌}
 use native.Mathlib.Omega.{arith}
-use borrow.Author.Tests.{ltb-false, le-ltb, eqb-true, eq-eqb, ne_eqb, not-false}
-use lib.Dec.{ltb, eqb}
+use borrow.Author.Tests.{ltb-false, le-ltb}
+use lib.Dec.{ltb}
 use lib.ListN.{length, drop, take}
 use Rattle.lists.specs.Table.{table}
-use Rattle.sparse.specs.Lent.{Outcome, outcome, unless}
+use Rattle.sparse.specs.Lent.{Outcome, outcome}
 use Rattle.sparse.specs.Matrix.{Matrix}
-use Rattle.sparse.specs.Refusals.{refuse, ◌else◌, lowest}
+use Rattle.sparse.specs.Refusals.{refuse}
 use Rattle.sparse.specs.Rows.{rows_of}
-use Rattle.sparse.specs.Tests.{modulus_test, size_test, well_formed, clean}
-use Rattle.sparse.specs.declared.Refusal.{Refusal}
+use Rattle.sparse.specs.Tests.{size_test, well_formed, clean}
 use Rattle.sparse.specs.declared.Refusal.TheVariants.{Mismatch}
-use Rattle.sparse.specs.declared.Tested.{Tested}
-use Rattle.sparse.specs.declared.Tested.TheVariants.{Good, Refused as Unfit}
+use Rattle.sparse.specs.declared.Tested.TheVariants.{Good}
 use Rattle.sparse.proofs.Cuts.{small}
 use Rattle.sparse.proofs.Firsts.{neither, refuse_good, refuse_false, lowest_good, lowest_skip, lowest_last}
-use Rattle.state.specs.Asks.{Opened, Startable}
-use Rattle.state.specs.Fresh.{counts, Opening, opening, start_test, started, new_test}
-use Rattle.state.specs.Memory.{Memory, memory}
+use Rattle.state.specs.Asks.{Startable}
+use Rattle.state.specs.Fresh.{counts, Opening, opening, started, new_test}
+use Rattle.state.specs.Memory.{Memory}
 use Rattle.state.specs.declared.Counts.{Counts}
 use Rattle.state.specs.declared.Mode.{Mode}
 use Rattle.walk.specs.Dense.{wiped}
@@ -32,7 +30,7 @@ use Rattle.running.specs.Asks.{Goes}
 use Rattle.running.specs.Rows.{Written, written, take_rows, Night, night}
 use Rattle.telling.specs.Runs.{run}
 use Rattle.telling.specs.declared.Reduced.{Reduced}
-use Rattle.telling.specs.declared.Reduced.TheVariants.{Taken, Refused}
+use Rattle.telling.specs.declared.Reduced.TheVariants.{Taken}
 use Rattle.batches.specs.Asks.{Begins, Anew}
 use Rattle.batches.specs.Batch.{beside, take_matrix, opened, restarted, take_anew}
 use Rattle.batches.specs.Tests.{short_test}

@@ -1,9 +1,9 @@
 -- The determinant: what its tests give, what reading L asks for, and each outcome.
 -- Assumes nothing.
-use mathlib.Core.Path.{◌≡◌, refl, sym, ap, subst, ◌∙◌}
-use mathlib.Core.Bool.{Bool, true, false, not, ◌||◌}
+use mathlib.Core.Path.{◌≡◌, sym, ap, subst, ◌∙◌}
+use mathlib.Core.Bool.{true, false, not, ◌||◌}
 use mathlib.Core.List.{List, []}
-use Prim.Native.Nat.{ℕ, ◌%◌, ◌-◌, ◌≤◌, ◌<◌}
+use Prim.Native.Nat.{ℕ, ◌≤◌, ◌<◌}
 use native.Mathlib.Omega.{arith}
 use borrow.Author.Tests.{lt-ltb, le-ltb, ltb-false, eq-eqb, ne_eqb}
 use lib.Dec.{ltb, eqb}
@@ -29,14 +29,13 @@ use Rattle.stepping.proofs.Walks.{parts, stands_inverts}
 use Rattle.telling.specs.Runs.{run}
 use Rattle.telling.specs.declared.Reduced.{Reduced}
 use Rattle.telling.specs.declared.Reduced.TheVariants.{Taken}
-use Rattle.telling.specs.declared.Run.{Run}
-use Rattle.running.specs.Rows.{Night, night, Written, written, take_rows}
+use Rattle.running.specs.Rows.{Night, night, written, take_rows}
 use Rattle.batches.specs.Asks.{Anew}
 use Rattle.batches.specs.Batch.{take_matrix, restarted, take_anew}
 use Rattle.nights.proofs.Anews.{anew_ends}
 use Rattle.nights.proofs.Folds.{run_in, Ends}
 use Rattle.nights.proofs.Rows.{Kept}
-use Rattle.signs.specs.Asks.{Multiplies, Values}
+use Rattle.signs.specs.Asks.{Multiplies}
 use Rattle.determinant.specs.Asks.{Readable}
 use Rattle.determinant.specs.Det.{det_test, valued, determined, det}
 use Rattle.determinant.specs.declared.Determined.{Determined}

@@ -1,19 +1,16 @@
 -- An L with values, in memory that is a state: where its rows lie, and that their last entries are residues.
 -- Assumes nothing.
 use mathlib.Core.Path.{◌≡◌, refl, sym, subst}
-use mathlib.Core.Bool.{◌||◌, false}
+use mathlib.Core.Bool.{false}
 use mathlib.Core.List.{List, [], ◌∷◌}
-use Prim.Native.Nat.{ℕ, zero, suc, ◌+◌, ◌-◌, ◌≤◌, ◌<◌}
-use native.Mathlib.Decide.{dec_lt}
-use native.Mathlib.Numerals.{add-one}
+use Prim.Native.Nat.{ℕ, ◌+◌, ◌-◌, ◌≤◌, ◌<◌}
 use native.Mathlib.Omega.{arith}
 use borrow.Author.Tests.{ltb-false}
 use lib.Dec.{ltb}
 use lib.ListN.{length, get_or, take}
 use lib.Seq.{length-take-le, get_or-take}
-use Rattle.sparse.specs.Matrix.{part, row}
+use Rattle.sparse.specs.Matrix.{row}
 use Rattle.sparse.specs.Tests.{values_test}
-use Rattle.sparse.specs.declared.Tested.TheVariants.{Good}
 use Rattle.sparse.specs.declared.inside.Clause.TheVariants.{Residue, Nonzero}
 use Rattle.sparse.proofs.Firsts.{neither}
 use Rattle.meaning.proofs.BuiltForm.{below_p}
@@ -21,7 +18,6 @@ use Rattle.meaning.proofs.Parts.{length_part, get_d_part}
 use Rattle.state.specs.Memory.{places}
 use Rattle.state.specs.State.{is_refused, pattern_fault, values_fault, l_fault}
 use Rattle.state.specs.declared.Counts.{Counts}
-use Rattle.state.specs.declared.Mode.{Mode}
 use Rattle.state.specs.declared.Mode.TheVariants.{Full}
 use Rattle.state.proofs.Faults.{held, not_refused}
 use Rattle.keeping.proofs.Lowers.{Level, fault_level, level_within}

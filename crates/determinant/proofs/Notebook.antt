@@ -24,7 +24,7 @@ use Rattle.walk.specs.Step.{upper, pivot_at, is_none, subtract, accept, stopped,
 use Rattle.steps.specs.History.{at_once}
 use Rattle.taking.specs.Stores.{with_u, with_l, kept_entries}
 use Rattle.writing.specs.Puts.{put_at}
-use Rattle.stepping.specs.Take.{Lists, lists, cleared, room_asked, step_of, counts_after, stored, took, row_step}
+use Rattle.stepping.specs.Take.{lists, cleared, room_asked, step_of, counts_after, stored, took, row_step}
 use Rattle.telling.specs.Answers.{none, number}
 use Rattle.telling.specs.Runs.{run}
 use Rattle.telling.specs.Runs as Runs

@@ -17,7 +17,6 @@ use Rattle.batches.specs.Batch.{take_anew}
 use Rattle.signs.specs.Value.{value_of}
 use Rattle.determinant.specs.declared.Determined.{Determined}
 use Rattle.determinant.specs.declared.Determined.TheVariants.{Value, Stopped, Refused}
-use Rattle.determinant.specs.declared.Valued.{Valued}
 
 -- 1 to 7 of the rows; 10; 11, dense memory or the pivot table is shorter than the columns; 14 at the fresh start
 unfoldable pub det_test : ℕ → Matrix → List ℕ → List ℕ → List ℕ → List ℕ → Tested

@@ -7,7 +7,6 @@ use Prim.Native.Nat.{ℕ, ◌≤◌}
 use native.Mathlib.Omega.{arith}
 use borrow.Author.Tests.{eqb-true, eq-eqb, ne_eqb, not-false}
 use lib.Dec.{eqb}
-use lib.ListN.{length}
 use Rattle.sparse.specs.Lent.{Outcome, outcome, unless}
 use Rattle.sparse.specs.Matrix.{Matrix}
 use Rattle.sparse.specs.Refusals.{refuse, ◌else◌, lowest}
