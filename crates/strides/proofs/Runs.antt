@@ -35,7 +35,7 @@ strides_as {p} {i = i} {c = c} {d = d} {m = m} {k = k} {ts = ts} e f strides = s
 
 module _ {p n : ℕ} {c : Counts} {m : Memory} where
   -- one run after another
-  pub strides_join : {ts us : List Told} {d e : Counts} {k l : Memory} → Strides p n c m ts d k → Strides p n d k us e l → Strides p n c m (ts ++ us) e l
+  pub strides_join : {ts : List Told} {d : Counts} {k : Memory} {us : List Told} {e : Counts} {l : Memory} → Strides p n c m ts d k → Strides p n d k us e l → Strides p n c m (ts ++ us) e l
   strides_join {ts} past still = rw (append-nil ts) past
   strides_join {ts} past (stride us d k more on es row room) = rw (← append_assoc ts us (told es (row_step on d es k).answer.answer ∷ [])) (stride (ts ++ us) d k (strides_join past more) on es row room)
 
