@@ -1,9 +1,10 @@
 // The answers' text, in the form of replay's FORMAT.md. It waits at the front of `out`, which is written out where it is full, and at
-// the end of the run. Each function is handed how many bytes wait, and answers how many then do.
+// the end of the run. Each function is handed how many bytes wait, and answers how many then do. A write that fails is passed over.
 #![tactic(auto)]
 
 use sparse::inside::number_of;
 use sparse::{Built, Refusal};
+use std::io::{Print, Stdout};
 
 // What a case comes to: so many bytes wait with its answer, or it is malformed, or no call of the
 // family that was asked.
@@ -16,8 +17,18 @@ pub enum Said {
 // How many bytes may wait.
 pub const ROOM: usize = 65536;
 
+// The most digits of a number.
+const DIGITS: usize = 20;
+
 // More copies than a list has elements: no count of a run gets there.
 const MANY: u64 = 1000000;
+
+// The bytes that wait, and where they go.
+#[derive(Drop)]
+pub struct Out {
+    bytes: [u8; ROOM],
+    to: Stdout,
+}
 
 // A list that is being written: the bytes that wait, the run of equal elements that is not written
 // yet, and whether one was written before it.
@@ -29,32 +40,40 @@ struct Run {
     later: bool,
 }
 
+// Before the run: nothing waits.
+pub fn no_out(to: Stdout) -> Out {
+    Out {
+        bytes: [0; ROOM],
+        to,
+    }
+}
+
 // At the end of the run: writes what still waits.
-pub fn finish(out: &mut [u8; ROOM], fill: usize) {
+pub fn finish(out: &mut Out, fill: usize) {
     flush(out, fill);
 }
 
 // Writes the bytes that wait to standard output. There are never more than `out` holds: the test
 // spares every caller a contract that says so.
-fn flush(out: &[u8], fill: usize) {
-    if fill <= out.len() {
-        io::write_all(libc::STDOUT_FILENO, &out[0..fill]);
+fn flush(out: &Out, fill: usize) {
+    if fill <= ROOM {
+        let _ = out.to.write_all(&out.bytes[0..fill]);
     }
 }
 
 // One byte.
-fn put_byte(out: &mut [u8; ROOM], fill: usize, byte: u8) -> usize {
+fn put_byte(out: &mut Out, fill: usize, byte: u8) -> usize {
     if fill < ROOM {
-        out[fill] = byte;
+        out.bytes[fill] = byte;
         return fill + 1;
     }
     flush(out, fill);
-    out[0] = byte;
+    out.bytes[0] = byte;
     1
 }
 
 // Some bytes.
-pub fn put(out: &mut [u8; ROOM], fill: usize, text: &[u8]) -> usize {
+pub fn put(out: &mut Out, fill: usize, text: &[u8]) -> usize {
     let mut fill = fill;
     for i in 0..text.len() {
         fill = put_byte(out, fill, text[i]);
@@ -63,26 +82,35 @@ pub fn put(out: &mut [u8; ROOM], fill: usize, text: &[u8]) -> usize {
 }
 
 // A number, in decimal.
-pub fn put_number(out: &mut [u8; ROOM], fill: usize, number: u64) -> usize {
-    let mut text = [0u8; 20];
-    let n = io::decimal(number, &mut text);
-    put(out, fill, &text[..n])
+pub fn put_number(out: &mut Out, fill: usize, number: u64) -> usize {
+    let mut digits = [b'0'; DIGITS];
+    let mut start = DIGITS - 1;
+    let mut rest = number;
+    for i in 0..DIGITS {
+        let at = DIGITS - 1 - i;
+        digits[at] = b'0' + (rest % 10) as u8;
+        if rest > 0 {
+            start = at;
+        }
+        rest /= 10;
+    }
+    put(out, fill, &digits[start..])
 }
 
 // A word, a space and a number.
-pub fn put_count(out: &mut [u8; ROOM], fill: usize, word: &[u8], number: u64) -> usize {
+pub fn put_count(out: &mut Out, fill: usize, word: &[u8], number: u64) -> usize {
     let fill = put(out, fill, word);
     let fill = put_byte(out, fill, b' ');
     put_number(out, fill, number)
 }
 
 // A refusal, by its number.
-pub fn put_refused(out: &mut [u8; ROOM], fill: usize, why: Refusal) -> usize {
+pub fn put_refused(out: &mut Out, fill: usize, why: Refusal) -> usize {
     put_count(out, fill, b"refused", number_of(why) as u64)
 }
 
 // What a call that makes a matrix or a vector answers.
-pub fn put_built(out: &mut [u8; ROOM], fill: usize, built: Built) -> usize {
+pub fn put_built(out: &mut Out, fill: usize, built: Built) -> usize {
     match built {
         Built::Made(entries) => put_count(out, fill, b"made", entries as u64),
         Built::Refused(why) => put_refused(out, fill, why),
@@ -90,7 +118,7 @@ pub fn put_built(out: &mut [u8; ROOM], fill: usize, built: Built) -> usize {
 }
 
 // Ends the answer's line. A malformed case has put nothing before.
-pub fn end(said: Said, out: &mut [u8; ROOM], fill: usize) -> usize {
+pub fn end(said: Said, out: &mut Out, fill: usize) -> usize {
     let Said::To(fill) = said else {
         return put(out, fill, b"bad\n");
     };
@@ -98,7 +126,7 @@ pub fn end(said: Said, out: &mut [u8; ROOM], fill: usize) -> usize {
 }
 
 // A lent list after the call.
-pub fn put_list(out: &mut [u8; ROOM], fill: usize, list: &[u32]) -> usize {
+pub fn put_list(out: &mut Out, fill: usize, list: &[u32]) -> usize {
     let mut run = no_run(fill);
     for i in 0..list.len() {
         run = put_next(out, run, wide(list[i]));
@@ -107,7 +135,7 @@ pub fn put_list(out: &mut [u8; ROOM], fill: usize, list: &[u32]) -> usize {
 }
 
 // A lent list of pointers after the call.
-pub fn put_pointers(out: &mut [u8; ROOM], fill: usize, list: &[usize]) -> usize {
+pub fn put_pointers(out: &mut Out, fill: usize, list: &[usize]) -> usize {
     let mut run = no_run(fill);
     for i in 0..list.len() {
         run = put_next(out, run, list[i] as u64);
@@ -116,7 +144,7 @@ pub fn put_pointers(out: &mut [u8; ROOM], fill: usize, list: &[usize]) -> usize 
 }
 
 // A lent text after the call, byte by byte.
-pub fn put_text(out: &mut [u8; ROOM], fill: usize, text: &[u8]) -> usize {
+pub fn put_text(out: &mut Out, fill: usize, text: &[u8]) -> usize {
     let mut run = no_run(fill);
     for i in 0..text.len() {
         run = put_next(out, run, wide_byte(text[i]));
@@ -142,7 +170,7 @@ fn no_run(fill: usize) -> Run {
 }
 
 // One more element: the run goes on, or is written and another begins.
-fn put_next(out: &mut [u8; ROOM], run: Run, value: u64) -> Run {
+fn put_next(out: &mut Out, run: Run, value: u64) -> Run {
     if run.many == 0 {
         return Run {
             fill: run.fill,
@@ -170,7 +198,7 @@ fn put_next(out: &mut [u8; ROOM], run: Run, value: u64) -> Run {
 }
 
 // What is left of the list; a dash where it is empty.
-fn put_end(out: &mut [u8; ROOM], run: Run) -> usize {
+fn put_end(out: &mut Out, run: Run) -> usize {
     if run.many == 0 {
         return put(out, run.fill, b" | -");
     }
@@ -178,7 +206,7 @@ fn put_end(out: &mut [u8; ROOM], run: Run) -> usize {
 }
 
 // A run: the list's own mark or a comma, the value, and how many there are where that is not one.
-fn put_run(out: &mut [u8; ROOM], run: Run) -> usize {
+fn put_run(out: &mut Out, run: Run) -> usize {
     let fill = put_mark(out, run.fill, run.later);
     let fill = put_number(out, fill, run.value);
     if run.many < 2 {
@@ -188,7 +216,7 @@ fn put_run(out: &mut [u8; ROOM], run: Run) -> usize {
     put_number(out, fill, run.many)
 }
 
-fn put_mark(out: &mut [u8; ROOM], fill: usize, later: bool) -> usize {
+fn put_mark(out: &mut Out, fill: usize, later: bool) -> usize {
     if later {
         return put_byte(out, fill, b',');
     }

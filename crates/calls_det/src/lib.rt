@@ -1,7 +1,7 @@
 // The determinant with the words of a case, and what it answers.
 #![tactic(auto)]
 
-use answers::{ROOM, put_count, put_list, put_refused};
+use answers::{Out, put_count, put_list, put_refused};
 use cases::table::{list, number, pointers};
 use cases_rows::memory::{put_counts, put_memory};
 use determinant::{Determined, Valued};
@@ -20,7 +20,7 @@ pub fn determined(
     l_vals: &mut [u32],
     l_ptrs: &mut [usize],
     pivots: &mut [u32],
-    out: &mut [u8; ROOM],
+    out: &mut Out,
     fill: usize,
 ) -> usize {
     let determined = determinant::det(
@@ -46,7 +46,7 @@ pub fn determined(
     )
 }
 
-fn put_determined(out: &mut [u8; ROOM], fill: usize, determined: Determined) -> usize {
+fn put_determined(out: &mut Out, fill: usize, determined: Determined) -> usize {
     match determined {
         Determined::Value(valued) => put_valued(out, fill, valued),
         Determined::Stopped(stop) => put_stopped(out, fill, stop),
@@ -54,14 +54,14 @@ fn put_determined(out: &mut [u8; ROOM], fill: usize, determined: Determined) -> 
     }
 }
 
-fn put_valued(out: &mut [u8; ROOM], fill: usize, valued: Valued) -> usize {
+fn put_valued(out: &mut Out, fill: usize, valued: Valued) -> usize {
     let run = valued.run;
     let fill = put_count(out, fill, b"value", valued.value as u64);
     put_run(out, fill, run)
 }
 
 // The number of the refusal at the row where it stopped, and the rows before.
-fn put_stopped(out: &mut [u8; ROOM], fill: usize, stop: Stop) -> usize {
+fn put_stopped(out: &mut Out, fill: usize, stop: Stop) -> usize {
     let why = stop.why;
     let run = stop.run;
     let fill = put_count(out, fill, b"stopped", number_of(why) as u64);
@@ -69,7 +69,7 @@ fn put_stopped(out: &mut [u8; ROOM], fill: usize, stop: Stop) -> usize {
 }
 
 // How many rows were taken, and the counts.
-fn put_run(out: &mut [u8; ROOM], fill: usize, run: Run) -> usize {
+fn put_run(out: &mut Out, fill: usize, run: Run) -> usize {
     let counts = run.counts;
     let fill = put_count(out, fill, b"", run.taken as u64);
     put_counts(out, fill, counts)

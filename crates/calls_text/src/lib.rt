@@ -1,7 +1,7 @@
 // The report of a text in memory as the case has it, and the answer to the case.
 #![tactic(auto)]
 
-use answers::{ROOM, Said, put, put_refused};
+use answers::{Out, Said, put, put_refused};
 use cases_text::form::{TEXT, first_number, put_bytes, read_text};
 use cases_text::memory::{SHOWN, kept, kept_pointers, kept_text, lend, lend_pointers, lend_text};
 use report::report;
@@ -35,7 +35,7 @@ pub fn said(
     line: &[u8],
     text: &mut [u8; TEXT],
     shown: &mut [u8; SHOWN],
-    out: &mut [u8; ROOM],
+    out: &mut Out,
     fill: usize,
 ) -> Said {
     let space = seek(line, 0, b' ');
@@ -53,7 +53,7 @@ fn said_of(
     short: u8,
     text: &mut [u8],
     shown: &mut [u8; SHOWN],
-    out: &mut [u8; ROOM],
+    out: &mut Out,
     fill: usize,
 ) -> Said {
     if space >= line.len() {
@@ -70,7 +70,7 @@ fn put_told(
     text: &[u8],
     short: u8,
     shown: &mut [u8; SHOWN],
-    out: &mut [u8; ROOM],
+    out: &mut Out,
     fill: usize,
 ) -> usize {
     let told = told(text, short, shown);
@@ -83,7 +83,7 @@ fn put_told(
     put(out, fill, b" changed")
 }
 
-fn put_printed(out: &mut [u8; ROOM], fill: usize, printed: Printed, shown: &[u8]) -> usize {
+fn put_printed(out: &mut Out, fill: usize, printed: Printed, shown: &[u8]) -> usize {
     match printed {
         Printed::Bytes(n) => put_front(out, fill, shown, n),
         Printed::Refused(why) => put_refused(out, fill, why),
@@ -91,7 +91,7 @@ fn put_printed(out: &mut [u8; ROOM], fill: usize, printed: Printed, shown: &[u8]
 }
 
 // The first n bytes, of which there are enough.
-fn put_front(out: &mut [u8; ROOM], fill: usize, shown: &[u8], n: usize) -> usize {
+fn put_front(out: &mut Out, fill: usize, shown: &[u8], n: usize) -> usize {
     if n > shown.len() {
         return fill;
     }

@@ -2,6 +2,7 @@
 // is handed on by its front, which is too long for a case, and the rest of it is passed over.
 ghost use Rattle.std.specs.Prelude.{◌+◌, ◌≤◌, length};
 
+use std::io::{Read, Stdin};
 use words::seek;
 
 // The longest line of a case.
@@ -26,7 +27,7 @@ pub fn no_lines() -> Lines {
 }
 
 // One step: the next line, or one read.
-pub fn step(lines: &mut [u8], state: Lines) -> Lines {
+pub fn step(stdin: Stdin, lines: &mut [u8], state: Lines) -> Lines {
     let next = state.next;
     let end = state.end;
     if end > lines.len() {
@@ -44,9 +45,9 @@ pub fn step(lines: &mut [u8], state: Lines) -> Lines {
         };
     }
     if state.long {
-        return read_on(lines, 0, true);
+        return read_on(stdin, lines, 0, true);
     }
-    keep(lines, next, end)
+    keep(stdin, lines, next, end)
 }
 
 // Where the line that ends at `stop` starts: one that did not fit was answered by its front.
@@ -58,7 +59,7 @@ fn start_of(long: bool, next: usize, stop: usize) -> usize {
 }
 
 // Reads on behind what waits, or hands it on where it fills the memory.
-fn keep(lines: &mut [u8], next: usize, end: usize) -> Lines
+fn keep(stdin: Stdin, lines: &mut [u8], next: usize, end: usize) -> Lines
     requires { end ≤ length lines.old }
 {
     if next > end {
@@ -76,15 +77,15 @@ fn keep(lines: &mut [u8], next: usize, end: usize) -> Lines
         };
     }
     move_front(lines, next, held);
-    read_on(lines, held, false)
+    read_on(stdin, lines, held, false)
 }
 
-// Reads once, behind the `held` bytes at the front. At the end of the input they are its last line.
-fn read_on(lines: &mut [u8], held: usize, long: bool) -> Lines
+// Reads once, behind the `held` bytes at the front. At the end of the input, or where a read fails, they are its last line.
+fn read_on(stdin: Stdin, lines: &mut [u8], held: usize, long: bool) -> Lines
     requires { held ≤ length lines.old }
 {
-    let got = libc::read(libc::STDIN_FILENO, &mut lines[held..]);
-    let n = io::count(got, &lines[held..]);
+    let mut stdin = stdin;
+    let n = stdin.read(&mut lines[held..]).unwrap_or(0);
     if n == 0 {
         return Lines {
             start: 0,

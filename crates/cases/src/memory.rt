@@ -1,6 +1,5 @@
 // Lent lists in long memory.
-ghost use Rattle.std.specs.Prelude.{◌≤◌};
-ghost use Rattle.io.specs.Counts.{IsPrefixLen};
+ghost use Rattle.std.specs.Prelude.{◌≤◌, length};
 
 // The bytes of the longest line, and one more, by which a longer one is known.
 pub const LINES: usize = 1000001;
@@ -35,7 +34,7 @@ pub fn is_text(list: &[u32]) -> bool {
 }
 
 fn copy(list: &[u32], into: &mut [u32]) -> usize
-    ensures { IsPrefixLen result into.new }
+    ensures { result ≤ length into.new }
 {
     let n = lesser(list.len(), into.len());
     for i in 0..n {
@@ -45,7 +44,7 @@ fn copy(list: &[u32], into: &mut [u32]) -> usize
 }
 
 fn copy_pointers(list: &[usize], into: &mut [usize]) -> usize
-    ensures { IsPrefixLen result into.new }
+    ensures { result ≤ length into.new }
 {
     let n = lesser(list.len(), into.len());
     for i in 0..n {
@@ -55,7 +54,7 @@ fn copy_pointers(list: &[usize], into: &mut [usize]) -> usize
 }
 
 fn copy_text(list: &[u32], into: &mut [u8]) -> usize
-    ensures { IsPrefixLen result into.new }
+    ensures { result ≤ length into.new }
 {
     let n = lesser(list.len(), into.len());
     for i in 0..n {

@@ -1,6 +1,6 @@
 // The account check with the words of a line, and its answer.
 use crate::memory::{LONG, NUMBERS, PLACES, POINTERS};
-use answers::{ROOM, Said, put, put_list, put_refused};
+use answers::{Out, Said, put, put_list, put_refused};
 use cases::memory::lend;
 use cases::table::{head, list, pointers, read_case};
 use checking::{Verdict, check_account};
@@ -19,7 +19,7 @@ pub fn said(
     nums: &mut [u32; NUMBERS],
     wides: &mut [usize; POINTERS],
     dense: &mut [u32; PLACES],
-    out: &mut [u8; ROOM],
+    out: &mut Out,
     fill: usize,
 ) -> Said {
     let case = read_case(line, &TABLE, LONG, nums, wides);
@@ -37,7 +37,7 @@ fn lent(
     nums: &[u32],
     wides: &[usize],
     dense: &mut [u32],
-    out: &mut [u8; ROOM],
+    out: &mut Out,
     fill: usize,
 ) -> usize {
     let dense = lend(list(nums, wides, DENSE), dense);
@@ -49,7 +49,7 @@ fn put_judged(
     nums: &[u32],
     wides: &[usize],
     dense: &mut [u32],
-    out: &mut [u8; ROOM],
+    out: &mut Out,
     fill: usize,
 ) -> usize {
     let verdict = judged(nums, wides, dense);
@@ -79,7 +79,7 @@ fn judged(nums: &[u32], wides: &[usize], dense: &mut [u32]) -> Verdict {
     )
 }
 
-fn put_verdict(out: &mut [u8; ROOM], fill: usize, verdict: Verdict) -> usize {
+fn put_verdict(out: &mut Out, fill: usize, verdict: Verdict) -> usize {
     match verdict {
         Verdict::Yes => put(out, fill, b"yes"),
         Verdict::No => put(out, fill, b"no"),

@@ -1,7 +1,7 @@
 // Cases of back substitution, which lends dense memory, the second U and the pivots.
 #![tactic(auto)]
 
-use answers::{ROOM, Said, put_list, put_pointers, put_refused};
+use answers::{Out, Said, put_list, put_pointers, put_refused};
 use backing::Backed;
 use cases::table::{has_call, list, pointers, read_case};
 use cases_reduced::{ENTRIES, NUMBERS, lend_pointer_word, lend_word, put_made};
@@ -26,7 +26,7 @@ pub fn said(
     back_vals: &mut [u32; ENTRIES],
     back_ptrs: &mut [usize; PLACES],
     pivots: &mut [u32; PLACES],
-    out: &mut [u8; ROOM],
+    out: &mut Out,
     fill: usize,
 ) -> Said {
     if is_case(line, nums, wides) {
@@ -61,7 +61,7 @@ fn lent(
     back_vals: &mut [u32],
     back_ptrs: &mut [usize],
     pivots: &mut [u32],
-    out: &mut [u8; ROOM],
+    out: &mut Out,
     fill: usize,
 ) -> usize {
     let dense = lend_word(nums, wides, 7, dense);
@@ -83,7 +83,7 @@ fn backed(
     back_vals: &mut [u32],
     back_ptrs: &mut [usize],
     pivots: &mut [u32],
-    out: &mut [u8; ROOM],
+    out: &mut Out,
     fill: usize,
 ) -> usize {
     let backed = backing::back_substitute(
@@ -108,7 +108,7 @@ fn backed(
     put_list(out, fill, pivots)
 }
 
-fn put_backed(out: &mut [u8; ROOM], fill: usize, backed: Backed) -> usize {
+fn put_backed(out: &mut Out, fill: usize, backed: Backed) -> usize {
     match backed {
         Backed::Made(counts) => put_made(out, fill, counts),
         Backed::Refused(why) => put_refused(out, fill, why),

@@ -1,7 +1,7 @@
 // Cases of determinants, which lend dense memory and a reducer's.
 #![tactic(auto)]
 
-use answers::{ROOM, Said};
+use answers::{Out, Said};
 use calls_det::determined;
 use cases::table::{has_call, read_case};
 use cases_reduced::{ENTRIES, NUMBERS, lend_pointer_word, lend_word};
@@ -29,7 +29,7 @@ pub fn said(
     l_vals: &mut [u32; ENTRIES],
     l_ptrs: &mut [usize; PLACES],
     pivots: &mut [u32; PLACES],
-    out: &mut [u8; ROOM],
+    out: &mut Out,
     fill: usize,
 ) -> Said {
     if is_case(line, nums, wides) {
@@ -61,7 +61,7 @@ fn lent(
     l_vals: &mut [u32],
     l_ptrs: &mut [usize],
     pivots: &mut [u32],
-    out: &mut [u8; ROOM],
+    out: &mut Out,
     fill: usize,
 ) -> usize {
     let dense = lend_word(nums, wides, 6, dense);

@@ -1,7 +1,7 @@
 // Cases of the fresh start, which is lent the pointers of U and of L and the pivots.
 #![tactic(auto)]
 
-use answers::{ROOM, Said, put, put_list, put_pointers, put_refused};
+use answers::{Out, Said, put, put_list, put_pointers, put_refused};
 use cases::memory::{lend, lend_pointers};
 use cases::table::{has_call, list, number, pointers, read_case};
 use cases_rows::memory::{ENTRIES, PLACES, is_mode, mode, put_counts};
@@ -24,7 +24,7 @@ pub fn said(
     u_ptrs: &mut [usize],
     l_ptrs: &mut [usize],
     pivots: &mut [u32],
-    out: &mut [u8; ROOM],
+    out: &mut Out,
     fill: usize,
 ) -> Said {
     let case = read_case(line, &TABLE, ENTRIES, nums, wides);
@@ -44,7 +44,7 @@ fn opened(
     u_ptrs: &mut [usize],
     l_ptrs: &mut [usize],
     pivots: &mut [u32],
-    out: &mut [u8; ROOM],
+    out: &mut Out,
     fill: usize,
 ) -> Said {
     if fits(nums, wides) {
@@ -78,7 +78,7 @@ fn fits(nums: &[u32], wides: &[usize]) -> bool {
     list(nums, wides, 5).len() <= PLACES
 }
 
-fn put_fresh(out: &mut [u8; ROOM], fill: usize, fresh: Fresh) -> usize {
+fn put_fresh(out: &mut Out, fill: usize, fresh: Fresh) -> usize {
     match fresh {
         Fresh::Opened(counts) => {
             let fill = put(out, fill, b"opened");

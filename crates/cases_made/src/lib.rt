@@ -3,7 +3,7 @@
 
 mod calls;
 
-use answers::{ROOM, Said, put_built, put_list, put_pointers};
+use answers::{Out, Said, put_built, put_list, put_pointers};
 use cases::memory::{lend, lend_pointers};
 use cases::table::{Case, has_call, list, pointers, read_case};
 use words::{LONG, NUMBERS, POINTERS};
@@ -30,7 +30,7 @@ pub fn said(
     ptrs: &mut [usize; LONG],
     cols: &mut [u32; LONG],
     vals: &mut [u32; LONG],
-    out: &mut [u8; ROOM],
+    out: &mut Out,
     fill: usize,
 ) -> Said {
     let case = read_case(line, &TABLE, LONG, nums, wides);
@@ -45,7 +45,7 @@ fn made(
     ptrs: &mut [usize],
     cols: &mut [u32],
     vals: &mut [u32],
-    out: &mut [u8; ROOM],
+    out: &mut Out,
     fill: usize,
 ) -> Said {
     let end = case.words;

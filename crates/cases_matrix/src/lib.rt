@@ -3,7 +3,7 @@
 
 ghost use Rattle.std.specs.Prelude.{◌≤◌};
 
-use answers::{ROOM, Said};
+use answers::{Out, Said};
 use calls_many::reduce;
 use cases::memory::{lend, lend_pointers};
 use cases::table::{has_call, list, pointers, read_case};
@@ -42,7 +42,7 @@ pub fn said(
     l_vals: &mut [u32; ENTRIES],
     l_ptrs: &mut [usize; PLACES],
     pivots: &mut [u32; PLACES],
-    out: &mut [u8; ROOM],
+    out: &mut Out,
     fill: usize,
 ) -> Said {
     let case = read_case(line, &TABLE, ENTRIES, nums, wides);
@@ -103,7 +103,7 @@ fn lent(
     l_vals: &mut [u32],
     l_ptrs: &mut [usize],
     pivots: &mut [u32],
-    out: &mut [u8; ROOM],
+    out: &mut Out,
     fill: usize,
 ) -> usize
     requires { at ≤ 12 }
@@ -145,7 +145,7 @@ fn taken(
     l_vals: &mut [u32],
     l_ptrs: &mut [usize],
     pivots: &mut [u32],
-    out: &mut [u8; ROOM],
+    out: &mut Out,
     fill: usize,
 ) -> usize {
     let reduced = reduce(

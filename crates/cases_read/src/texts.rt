@@ -1,5 +1,5 @@
 // The calls that are lent a text, which is their last word.
-use answers::{ROOM, Said, put_count, put_refused, put_text};
+use answers::{Out, Said, put_count, put_refused, put_text};
 use cases::memory::{is_text, lend_text};
 use cases::table::{Case, has_call, head, list, number, pointers, read_case};
 use text::Printed;
@@ -20,7 +20,7 @@ pub fn said(
     nums: &mut [u32; NUMBERS],
     wides: &mut [usize; POINTERS],
     text: &mut [u8; LONG],
-    out: &mut [u8; ROOM],
+    out: &mut Out,
     fill: usize,
 ) -> Said {
     let case = read_case(line, &TABLE, LONG, nums, wides);
@@ -33,7 +33,7 @@ fn lent(
     nums: &[u32; NUMBERS],
     wides: &[usize; POINTERS],
     text: &mut [u8],
-    out: &mut [u8; ROOM],
+    out: &mut Out,
     fill: usize,
 ) -> Said {
     let end = case.words;
@@ -77,7 +77,7 @@ fn print(
     )
 }
 
-fn put_printed(out: &mut [u8; ROOM], fill: usize, found: Printed) -> usize {
+fn put_printed(out: &mut Out, fill: usize, found: Printed) -> usize {
     match found {
         Printed::Bytes(many) => put_count(out, fill, b"bytes", many as u64),
         Printed::Refused(why) => put_refused(out, fill, why),

@@ -1,5 +1,5 @@
 // The calls that are lent a vector, which is their last two words.
-use answers::{ROOM, Said, put, put_built, put_count, put_list, put_refused};
+use answers::{Out, Said, put, put_built, put_count, put_list, put_refused};
 use cases::memory::lend;
 use cases::table::{Case, has_call, head, list, pointers, read_case};
 use readers::LastRow;
@@ -24,7 +24,7 @@ pub fn said(
     wides: &mut [usize; POINTERS],
     idcs: &mut [u32; LONG],
     vals: &mut [u32; LONG],
-    out: &mut [u8; ROOM],
+    out: &mut Out,
     fill: usize,
 ) -> Said {
     let case = read_case(line, &TABLE, LONG, nums, wides);
@@ -38,7 +38,7 @@ fn lent(
     wides: &[usize; POINTERS],
     idcs: &mut [u32],
     vals: &mut [u32],
-    out: &mut [u8; ROOM],
+    out: &mut Out,
     fill: usize,
 ) -> Said {
     let end = case.words;
@@ -59,7 +59,7 @@ fn found(
     wides: &[usize; POINTERS],
     idcs: &mut [u32],
     vals: &mut [u32],
-    out: &mut [u8; ROOM],
+    out: &mut Out,
     fill: usize,
 ) -> usize {
     if call == 0 {
@@ -161,7 +161,7 @@ fn last_column_by_pivot(
     )
 }
 
-fn put_row(out: &mut [u8; ROOM], fill: usize, found: LastRow) -> usize {
+fn put_row(out: &mut Out, fill: usize, found: LastRow) -> usize {
     match found {
         LastRow::Nothing => put(out, fill, b"nothing"),
         LastRow::Row(row, entries) => {

@@ -1,5 +1,5 @@
 // `add_cols`, which is lent the columns that it moves.
-use answers::{ROOM, Said, put_count, put_list, put_refused};
+use answers::{Out, Said, put_count, put_list, put_refused};
 use cases::memory::lend;
 use cases::table::{has_call, head, list, pointers, read_case};
 use columns::Widened;
@@ -19,7 +19,7 @@ pub fn said(
     nums: &mut [u32; NUMBERS],
     wides: &mut [usize; POINTERS],
     cols: &mut [u32; LONG],
-    out: &mut [u8; ROOM],
+    out: &mut Out,
     fill: usize,
 ) -> Said {
     let case = read_case(line, &TABLE, LONG, nums, wides);
@@ -34,7 +34,7 @@ fn widen(
     nums: &[u32; NUMBERS],
     wides: &[usize; POINTERS],
     cols: &mut [u32],
-    out: &mut [u8; ROOM],
+    out: &mut Out,
     fill: usize,
 ) -> usize {
     let cols = lend(list(nums, wides, 4), cols);
@@ -55,7 +55,7 @@ fn add_cols(nums: &[u32; NUMBERS], wides: &[usize; POINTERS], cols: &mut [u32]) 
     )
 }
 
-fn put_widened(out: &mut [u8; ROOM], fill: usize, found: Widened) -> usize {
+fn put_widened(out: &mut Out, fill: usize, found: Widened) -> usize {
     match found {
         Widened::Columns(ncols) => put_count(out, fill, b"columns", ncols as u64),
         Widened::Refused(why) => put_refused(out, fill, why),

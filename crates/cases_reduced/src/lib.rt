@@ -2,7 +2,7 @@
 // line's memory, of which the other lists have those of the calls that take rows; a lent word; an answer.
 #![tactic(auto)]
 
-use answers::{ROOM, put};
+use answers::{Out, put};
 use cases::memory::{lend, lend_pointers};
 use cases::table::{list, pointers};
 use cases_rows::memory::put_counts;
@@ -30,7 +30,7 @@ pub fn lend_pointer_word<'a>(wides: &[usize], k: usize, into: &'a mut [usize]) -
 }
 
 // Of a call that changes what a reducer has: the counts after it.
-pub fn put_made(out: &mut [u8; ROOM], fill: usize, counts: Counts) -> usize {
+pub fn put_made(out: &mut Out, fill: usize, counts: Counts) -> usize {
     let fill = put(out, fill, b"made");
     put_counts(out, fill, counts)
 }

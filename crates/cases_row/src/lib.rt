@@ -2,7 +2,7 @@
 #![tactic(auto)]
 
 use adding::Added;
-use answers::{ROOM, Said, put_list};
+use answers::{Out, Said, put_list};
 use cases::memory::{lend, lend_pointers};
 use cases::table::{has_call, list, pointers, read_case};
 use cases_rows::memory::{
@@ -34,7 +34,7 @@ pub fn said(
     l_vals: &mut [u32; ENTRIES],
     l_ptrs: &mut [usize; PLACES],
     pivots: &mut [u32; PLACES],
-    out: &mut [u8; ROOM],
+    out: &mut Out,
     fill: usize,
 ) -> Said {
     let case = read_case(line, &TABLE, ENTRIES, nums, wides);
@@ -81,7 +81,7 @@ fn lent(
     l_vals: &mut [u32],
     l_ptrs: &mut [usize],
     pivots: &mut [u32],
-    out: &mut [u8; ROOM],
+    out: &mut Out,
     fill: usize,
 ) -> usize {
     let dense = lend(list(nums, wides, 9), dense);
@@ -110,7 +110,7 @@ fn taken(
     l_vals: &mut [u32],
     l_ptrs: &mut [usize],
     pivots: &mut [u32],
-    out: &mut [u8; ROOM],
+    out: &mut Out,
     fill: usize,
 ) -> usize {
     let added = add(

@@ -1,6 +1,6 @@
 // The memory of a line, and what the reducer's cases have in common: the counts, a mode as a number,
 // and the lent lists, of which U, L and the pivots are the last seven words.
-use answers::{ROOM, put_count, put_list, put_pointers};
+use answers::{Out, put_count, put_list, put_pointers};
 use cases::table::{list, number, pointers, wide_number};
 use state::{Counts, Mode};
 
@@ -79,7 +79,7 @@ pub fn fits(nums: &[u32], wides: &[usize], dense: usize, red: usize) -> bool {
 }
 
 // The counts after a call, each behind a space.
-pub fn put_counts(out: &mut [u8; ROOM], fill: usize, counts: Counts) -> usize {
+pub fn put_counts(out: &mut Out, fill: usize, counts: Counts) -> usize {
     let mode = counts.mode;
     let fill = put_count(out, fill, b"", mode_word(mode));
     let fill = put_count(out, fill, b"", counts.modulus as u64);
@@ -92,7 +92,7 @@ pub fn put_counts(out: &mut [u8; ROOM], fill: usize, counts: Counts) -> usize {
 
 // U, L and the pivots after a call.
 pub fn put_memory(
-    out: &mut [u8; ROOM],
+    out: &mut Out,
     fill: usize,
     u_cols: &[u32],
     u_vals: &[u32],

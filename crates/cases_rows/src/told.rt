@@ -1,13 +1,13 @@
 // What the calls answer, and the memory of those that take many rows.
 use crate::memory::{put_counts, put_memory};
 use adding::Added;
-use answers::{ROOM, put, put_count, put_list, put_refused};
+use answers::{Out, put, put_count, put_list, put_refused};
 use sparse::inside::number_of;
 use telling::{Reduced, Run};
 use walk::Answer;
 
 // Of a call that takes many rows: how many were taken, and the counts; where it stopped, the number before them.
-pub fn put_reduced(out: &mut [u8; ROOM], fill: usize, reduced: Reduced) -> usize {
+pub fn put_reduced(out: &mut Out, fill: usize, reduced: Reduced) -> usize {
     match reduced {
         Reduced::Taken(run) => put_run(out, fill, b"taken", run),
         Reduced::Dependent(run) => put_run(out, fill, b"dependent", run),
@@ -21,7 +21,7 @@ pub fn put_reduced(out: &mut [u8; ROOM], fill: usize, reduced: Reduced) -> usize
     }
 }
 
-fn put_run(out: &mut [u8; ROOM], fill: usize, word: &[u8], run: Run) -> usize {
+fn put_run(out: &mut Out, fill: usize, word: &[u8], run: Run) -> usize {
     let counts = run.counts;
     let fill = put_count(out, fill, word, run.taken as u64);
     put_counts(out, fill, counts)
@@ -29,7 +29,7 @@ fn put_run(out: &mut [u8; ROOM], fill: usize, word: &[u8], run: Run) -> usize {
 
 // All lent lists after the call.
 pub fn put_all(
-    out: &mut [u8; ROOM],
+    out: &mut Out,
     fill: usize,
     dense: &[u32],
     answers: &[u32],
@@ -49,7 +49,7 @@ pub fn put_all(
 }
 
 // Of a call that takes one row.
-pub fn put_added(out: &mut [u8; ROOM], fill: usize, added: Added) -> usize {
+pub fn put_added(out: &mut Out, fill: usize, added: Added) -> usize {
     match added {
         Added::Answered(stepped) => {
             let answer = stepped.answer;
@@ -61,7 +61,7 @@ pub fn put_added(out: &mut [u8; ROOM], fill: usize, added: Added) -> usize {
     }
 }
 
-fn put_answer(out: &mut [u8; ROOM], fill: usize, answer: Answer) -> usize {
+fn put_answer(out: &mut Out, fill: usize, answer: Answer) -> usize {
     match answer {
         Answer::Accepted(col) => put_count(out, fill, b"accepted", col as u64),
         Answer::None => put(out, fill, b"none"),

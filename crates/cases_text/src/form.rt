@@ -1,6 +1,8 @@
 // Bytes in a line. One from a space to a tilde stands for itself, but for the backslash, which is `\\`; a line
 // feed is `\n`, and every other byte `\x` and two hexadecimal digits.
-use answers::{ROOM, put};
+ghost use Rattle.std.specs.Prelude.{◌<◌};
+
+use answers::{Out, put};
 
 // The longest line.
 pub const LONGEST: usize = 140000;
@@ -142,7 +144,7 @@ pub fn first_number(line: &[u8], space: usize) -> u8 {
 }
 
 // Puts bytes.
-pub fn put_bytes(out: &mut [u8; ROOM], fill: usize, bytes: &[u8]) -> usize {
+pub fn put_bytes(out: &mut Out, fill: usize, bytes: &[u8]) -> usize {
     let mut fill = fill;
     for i in 0..bytes.len() {
         fill = put_escaped(out, fill, bytes[i]);
@@ -150,7 +152,7 @@ pub fn put_bytes(out: &mut [u8; ROOM], fill: usize, bytes: &[u8]) -> usize {
     fill
 }
 
-fn put_escaped(out: &mut [u8; ROOM], fill: usize, byte: u8) -> usize {
+fn put_escaped(out: &mut Out, fill: usize, byte: u8) -> usize {
     if byte == b'\n' {
         return put(out, fill, b"\\n");
     }
@@ -163,9 +165,17 @@ fn put_escaped(out: &mut [u8; ROOM], fill: usize, byte: u8) -> usize {
     put(out, fill, &[byte])
 }
 
-fn put_hex(out: &mut [u8; ROOM], fill: usize, byte: u8) -> usize {
-    let mut digits = [0u8; 16];
-    let n = io::hex(byte as u64, 2, &mut digits);
+fn put_hex(out: &mut Out, fill: usize, byte: u8) -> usize {
     let fill = put(out, fill, b"\\x");
-    put(out, fill, &digits[..n])
+    put(out, fill, &[hex_digit(byte / 16), hex_digit(byte % 16)])
+}
+
+// The hexadecimal digit of a number below 16.
+fn hex_digit(number: u8) -> u8
+    requires { number < 16 }
+{
+    if number < 10 {
+        return b'0' + number;
+    }
+    b'a' + (number - 10)
 }

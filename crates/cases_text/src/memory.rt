@@ -1,6 +1,5 @@
 // Lent lists. Each is filled with marks before the call, and looked at after it.
-ghost use Rattle.std.specs.Prelude.{◌≤◌};
-ghost use Rattle.io.specs.Counts.{IsPrefixLen};
+ghost use Rattle.std.specs.Prelude.{◌≤◌, length};
 
 // The bytes of the longest report.
 pub const SHOWN: usize = 163840;
@@ -55,7 +54,7 @@ fn lent(n: usize, is_short: bool) -> usize
 
 // Marks every place, and says how many are lent.
 fn fill(list: &mut [u32], is_short: bool) -> usize
-    ensures { IsPrefixLen result list.new }
+    ensures { result ≤ length list.new }
 {
     let n = list.len();
     for i in 0..n {
@@ -65,7 +64,7 @@ fn fill(list: &mut [u32], is_short: bool) -> usize
 }
 
 fn fill_pointers(list: &mut [usize], is_short: bool) -> usize
-    ensures { IsPrefixLen result list.new }
+    ensures { result ≤ length list.new }
 {
     let n = list.len();
     for i in 0..n {
@@ -75,7 +74,7 @@ fn fill_pointers(list: &mut [usize], is_short: bool) -> usize
 }
 
 fn fill_text(list: &mut [u8], is_short: bool) -> usize
-    ensures { IsPrefixLen result list.new }
+    ensures { result ≤ length list.new }
 {
     let n = list.len();
     for i in 0..n {

@@ -1,5 +1,5 @@
 // The calls, each with the words that its row of the table names, and their answers.
-use answers::{ROOM, put, put_number, put_refused};
+use answers::{Out, put, put_number, put_refused};
 use cases::table::{head, list, number, pointers};
 use field::prime::is_modulus;
 use readers::Verdict;
@@ -11,7 +11,7 @@ pub fn told(
     call: usize,
     nums: &[u32; NUMBERS],
     wides: &[usize; POINTERS],
-    out: &mut [u8; ROOM],
+    out: &mut Out,
     fill: usize,
 ) -> usize {
     if call == 0 {
@@ -95,11 +95,11 @@ fn invert(p: u32, a: u32) -> u32 {
     0
 }
 
-fn put_prime(out: &mut [u8; ROOM], fill: usize, n: u32) -> usize {
+fn put_prime(out: &mut Out, fill: usize, n: u32) -> usize {
     put_yes(out, fill, is_modulus(n))
 }
 
-fn put_inverse(out: &mut [u8; ROOM], fill: usize, p: u32, a: u32) -> usize {
+fn put_inverse(out: &mut Out, fill: usize, p: u32, a: u32) -> usize {
     let found = invert(p, a);
     if found == 0 {
         return put(out, fill, b"none");
@@ -107,14 +107,14 @@ fn put_inverse(out: &mut [u8; ROOM], fill: usize, p: u32, a: u32) -> usize {
     put_number(out, fill, found as u64)
 }
 
-fn put_tested(out: &mut [u8; ROOM], fill: usize, tested: Tested) -> usize {
+fn put_tested(out: &mut Out, fill: usize, tested: Tested) -> usize {
     match tested {
         Tested::Good => put(out, fill, b"good"),
         Tested::Refused(why) => put_refused(out, fill, why),
     }
 }
 
-fn put_verdict(out: &mut [u8; ROOM], fill: usize, verdict: Verdict) -> usize {
+fn put_verdict(out: &mut Out, fill: usize, verdict: Verdict) -> usize {
     match verdict {
         Verdict::Yes => put_yes(out, fill, true),
         Verdict::No => put_yes(out, fill, false),
@@ -122,7 +122,7 @@ fn put_verdict(out: &mut [u8; ROOM], fill: usize, verdict: Verdict) -> usize {
     }
 }
 
-fn put_yes(out: &mut [u8; ROOM], fill: usize, yes: bool) -> usize {
+fn put_yes(out: &mut Out, fill: usize, yes: bool) -> usize {
     if yes {
         return put(out, fill, b"yes");
     }

@@ -3,7 +3,7 @@
 
 mod calls;
 
-use answers::{ROOM, Said};
+use answers::{Out, Said};
 use cases::table::{has_call, read_case};
 use words::{LONG, NOWHERE, NUMBERS, POINTERS};
 
@@ -25,7 +25,7 @@ pub fn said(
     line: &[u8],
     nums: &mut [u32; NUMBERS],
     wides: &mut [usize; POINTERS],
-    out: &mut [u8; ROOM],
+    out: &mut Out,
     fill: usize,
 ) -> Said {
     let case = read_case(line, &TABLE, LONG, nums, wides);

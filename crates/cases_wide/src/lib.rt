@@ -1,7 +1,7 @@
 // Cases of columns inserted in a reducer, which lends U's columns and the pivots.
 #![tactic(auto)]
 
-use answers::{ROOM, Said, put_list, put_refused};
+use answers::{Out, Said, put_list, put_refused};
 use cases::table::{has_call, list, pointers, read_case};
 use cases_reduced::{ENTRIES, NUMBERS, lend_word, put_made};
 use cases_rows::memory::{PLACES, ROW_POINTERS, counts, fits, is_mode};
@@ -23,7 +23,7 @@ pub fn said(
     wides: &mut [usize; ROW_POINTERS],
     u_cols: &mut [u32; ENTRIES],
     pivots: &mut [u32; PLACES],
-    out: &mut [u8; ROOM],
+    out: &mut Out,
     fill: usize,
 ) -> Said {
     if is_case(line, nums, wides) {
@@ -50,7 +50,7 @@ fn widened(
     wides: &[usize],
     u_cols: &mut [u32],
     pivots: &mut [u32],
-    out: &mut [u8; ROOM],
+    out: &mut Out,
     fill: usize,
 ) -> usize {
     let u_cols = lend_word(nums, wides, 8, u_cols);
@@ -71,7 +71,7 @@ fn widened(
     put_list(out, fill, pivots)
 }
 
-fn put_widened(out: &mut [u8; ROOM], fill: usize, widened: Widened) -> usize {
+fn put_widened(out: &mut Out, fill: usize, widened: Widened) -> usize {
     match widened {
         Widened::Made(counts) => put_made(out, fill, counts),
         Widened::Refused(why) => put_refused(out, fill, why),

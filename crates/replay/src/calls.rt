@@ -1,5 +1,5 @@
 // The families of calls. Each is asked in turn whether the case is one of its own.
-use answers::{ROOM, end};
+use answers::{Out, end};
 use cases_read::{texts, vectors, widening};
 use words::{LONG, NUMBERS, POINTERS};
 
@@ -12,7 +12,7 @@ pub fn answer(
     cols: &mut [u32; LONG],
     vals: &mut [u32; LONG],
     text: &mut [u8; LONG],
-    out: &mut [u8; ROOM],
+    out: &mut Out,
     fill: usize,
 ) -> usize {
     if case.len() == 0 {

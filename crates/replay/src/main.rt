@@ -9,7 +9,7 @@ use cases::memory::LINES;
 use words::{LONG, NUMBERS, POINTERS};
 
 // All memory is made here, once, as making it costs more than a case.
-fn main() {
+fn main(rt: HostRuntime) {
     let mut lines = [0u8; LINES];
     let mut nums = [0u32; NUMBERS];
     let mut wides = [0usize; POINTERS];
@@ -17,9 +17,9 @@ fn main() {
     let mut cols = [0u32; LONG];
     let mut vals = [0u32; LONG];
     let mut text = [0u8; LONG];
-    let mut out = [0u8; answers::ROOM];
+    let mut out = answers::no_out(rt.stdout());
     let fill = lines::replay(
-        &mut lines, &mut nums, &mut wides, &mut ptrs, &mut cols, &mut vals, &mut text, &mut out,
+        rt.stdin(), &mut lines, &mut nums, &mut wides, &mut ptrs, &mut cols, &mut vals, &mut text, &mut out,
     );
     answers::finish(&mut out, fill);
 }

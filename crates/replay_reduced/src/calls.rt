@@ -1,5 +1,5 @@
 // The families of the calls on what a reducer has. Each is asked in turn whether the case is one of its own.
-use answers::{ROOM, end};
+use answers::{Out, end};
 use cases_reduced::{ENTRIES, NUMBERS};
 use cases_rows::memory::{PLACES, ROW_POINTERS};
 
@@ -17,7 +17,7 @@ pub fn answer(
     l_vals: &mut [u32; ENTRIES],
     l_ptrs: &mut [usize; PLACES],
     pivots: &mut [u32; PLACES],
-    out: &mut [u8; ROOM],
+    out: &mut Out,
     fill: usize,
 ) -> usize {
     if case.len() == 0 {

@@ -11,7 +11,7 @@ use cases_reduced::{ENTRIES, NUMBERS};
 use cases_rows::memory::{PLACES, ROW_POINTERS};
 
 // All memory is made here, once, as making it costs more than a case.
-fn main() {
+fn main(rt: HostRuntime) {
     let mut lines = [0u8; LINES];
     let mut nums = [0u32; NUMBERS];
     let mut wides = [0usize; ROW_POINTERS];
@@ -23,9 +23,9 @@ fn main() {
     let mut l_vals = [0u32; ENTRIES];
     let mut l_ptrs = [0usize; PLACES];
     let mut pivots = [0u32; PLACES];
-    let mut out = [0u8; answers::ROOM];
+    let mut out = answers::no_out(rt.stdout());
     let fill = lines::replay(
-        &mut lines,
+        rt.stdin(), &mut lines,
         &mut nums,
         &mut wides,
         &mut dense,

@@ -1,5 +1,5 @@
 // The families of the reducer's calls. Each is asked in turn whether the case is one of its own.
-use answers::{ROOM, end};
+use answers::{Out, end};
 use cases_rows::memory::{ENTRIES, PLACES, ROW_NUMBERS, ROW_POINTERS};
 
 // Answers the case: nothing where it is empty, `bad` where it is malformed.
@@ -16,7 +16,7 @@ pub fn answer(
     l_vals: &mut [u32; ENTRIES],
     l_ptrs: &mut [usize; PLACES],
     pivots: &mut [u32; PLACES],
-    out: &mut [u8; ROOM],
+    out: &mut Out,
     fill: usize,
 ) -> usize {
     if case.len() == 0 {

@@ -1,23 +1,25 @@
 // The lines of the input, one after the other.
-use answers::{ROOM, end};
+use answers::{Out, end};
 use calls_text::said;
 use cases::input::{case_of, no_lines, step};
 use cases_text::form::{LINES, LONGEST, TEXT};
 use cases_text::memory::SHOWN;
+use std::io::Stdin;
 
 // Answers every line of standard input, and says how many bytes wait then. Nothing says that the
 // input ends, so the steps are counted down from a number that no run uses up.
 pub fn replay(
+    stdin: Stdin,
     lines: &mut [u8; LINES],
     text: &mut [u8; TEXT],
     shown: &mut [u8; SHOWN],
-    out: &mut [u8; ROOM],
+    out: &mut Out,
 ) -> usize {
     let mut state = no_lines();
     let mut fill = 0;
     let mut left = u64::MAX;
     while left > 0 {
-        state = step(lines, state);
+        state = step(stdin, lines, state);
         let case = case_of(lines, state.start, state.stop, LONGEST);
         fill = answer(case, text, shown, out, fill);
         if state.done {
@@ -33,7 +35,7 @@ fn answer(
     case: &[u8],
     text: &mut [u8; TEXT],
     shown: &mut [u8; SHOWN],
-    out: &mut [u8; ROOM],
+    out: &mut Out,
     fill: usize,
 ) -> usize {
     if case.len() == 0 {

@@ -8,11 +8,11 @@ use cases_text::form::{LINES, TEXT};
 use cases_text::memory::SHOWN;
 
 // The memory that outlives a case is made here, once.
-fn main() {
+fn main(rt: HostRuntime) {
     let mut lines = [0u8; LINES];
     let mut text = [0u8; TEXT];
     let mut shown = [0u8; SHOWN];
-    let mut out = [0u8; answers::ROOM];
-    let fill = lines::replay(&mut lines, &mut text, &mut shown, &mut out);
+    let mut out = answers::no_out(rt.stdout());
+    let fill = lines::replay(rt.stdin(), &mut lines, &mut text, &mut shown, &mut out);
     answers::finish(&mut out, fill);
 }

@@ -1,0 +1,12 @@
+-- `move_front` is safe and ends: the text keeps its length.
+-- Assumes nothing.
+use Prim.Native.Nat.{◌-◌, ◌≤◌}
+use lib.ListN.{length}
+use mathlib.Core.Path.{◌≡◌}
+use Rattle.cases.proofs.input.move_front.Given as goal
+
+abbrev pub invariant-loop-i : goal.invariant-loop-i
+invariant-loop-i l = (l.i ≤ l.n) × (length l.text ≡ length l.initial.text)
+
+abbrev pub decreases-loop-i : goal.decreases-loop-i
+decreases-loop-i l = l.n - l.i
