@@ -19,7 +19,15 @@ fn main(rt: HostRuntime) {
     let mut text = [0u8; LONG];
     let mut out = answers::no_out(rt.stdout());
     let fill = lines::replay(
-        rt.stdin(), &mut lines, &mut nums, &mut wides, &mut ptrs, &mut cols, &mut vals, &mut text, &mut out,
+        rt.stdin(),
+        &mut lines,
+        &mut nums,
+        &mut wides,
+        &mut ptrs,
+        &mut cols,
+        &mut vals,
+        &mut text,
+        &mut out,
     );
     answers::finish(&mut out, fill);
 }

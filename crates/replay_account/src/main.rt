@@ -13,6 +13,13 @@ fn main(rt: HostRuntime) {
     let mut wides = [0usize; POINTERS];
     let mut dense = [0u32; PLACES];
     let mut out = answers::no_out(rt.stdout());
-    let fill = lines::replay(rt.stdin(), &mut lines, &mut nums, &mut wides, &mut dense, &mut out);
+    let fill = lines::replay(
+        rt.stdin(),
+        &mut lines,
+        &mut nums,
+        &mut wides,
+        &mut dense,
+        &mut out,
+    );
     answers::finish(&mut out, fill);
 }

@@ -25,7 +25,8 @@ fn main(rt: HostRuntime) {
     let mut pivots = [0u32; PLACES];
     let mut out = answers::no_out(rt.stdout());
     let fill = lines::replay(
-        rt.stdin(), &mut lines,
+        rt.stdin(),
+        &mut lines,
         &mut nums,
         &mut wides,
         &mut dense,
