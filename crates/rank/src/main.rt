@@ -4,81 +4,95 @@
 
 mod work;
 
-use libc::{STDIN_FILENO, STDOUT_FILENO};
+ghost use Rattle.std.specs.Prelude.{◌≤◌, length, IfOk};
+
 use sparse::Refusal;
 use sparse::inside::number_of;
+use std::env::FillError;
+use std::fmt::Display;
+use std::fs::File;
+use std::io::{Print, Read};
+use std::process::ExitCode;
+use std::rt::Env;
+use std::{io, str};
 use text::Printed;
 use work::OUT;
 
 // The longest text that is read, and one byte more, by which a longer one is known.
 const TEXT: usize = 32769;
 
-fn main() {
-    if os::arg_count() < 2 {
-        tell(STDIN_FILENO, b"standard input");
-        return;
+// The longest path, and one byte more.
+const PATH: usize = 4096;
+
+fn main(rt: HostRuntime) -> ExitCode {
+    let mut path = [0u8; PATH];
+    match rt.arg(1, &mut path) {
+        Ok(length) => tell_file(&rt, &path[..length]),
+        Err(FillError::NotPresent) => tell(&rt, &mut rt.stdin(), "standard input"),
+        Err(FillError::TooLong) => fail(&rt, "argument", "File name too long"),
     }
-    let mut path = io::buffer();
-    let length = os::arg(1, &mut path);
-    if os::errno() != 0 {
-        os::fail(b"argument");
-        return;
-    }
-    tell_file(&path[..length]);
 }
 
-fn tell_file(path: &[u8]) {
-    let fd = os::open_read(path);
-    if fd < 0 {
-        os::fail(path);
-        return;
+fn tell_file(rt: &HostRuntime, path: &[u8]) -> ExitCode {
+    let Ok(path) = str::from_utf8(path) else {
+        return fail(rt, "argument", "not UTF-8");
+    };
+    match File::open(rt, path) {
+        Ok(mut file) => tell(rt, &mut file, path),
+        Err(error) => fail(rt, path, error),
     }
-    tell(fd, path);
-    libc::close(fd);
 }
 
-// Prints what there is to say of the text behind a descriptor.
-fn tell(fd: i32, name: &[u8]) {
+// Prints what there is to say of a text.
+fn tell(rt: &HostRuntime, from: &mut impl Read, name: &str) -> ExitCode {
     let mut text = [0u8; TEXT];
-    let n = io::read_full(fd, &mut text);
-    if n < TEXT && !has_ended(fd) {
-        os::fail(name);
-        return;
+    match read_full(from, &mut text) {
+        Ok(n) => print_report(rt, &text[..n]),
+        Err(error) => fail(rt, name, error),
     }
+}
+
+// Reads up to the text's end, or as much as there is memory for, and says how many bytes these are.
+fn read_full(from: &mut impl Read, text: &mut [u8; TEXT]) -> io::Result<usize>
+    ensures { IfOk result (λ n. n ≤ length text.new) }
+{
+    let mut done = 0;
+    while done < TEXT {
+        let n = from.read(&mut text[done..])?;
+        if n == 0 {
+            return Ok(done);
+        }
+        done += n;
+    }
+    Ok(done)
+}
+
+fn print_report(rt: &HostRuntime, text: &[u8]) -> ExitCode {
     let mut out = [0u8; OUT];
-    print_report(&text[..n], &mut out);
-}
-
-// A short count is the end of the text, or a read that failed, as that of a folder: one read more tells.
-fn has_ended(fd: i32) -> bool {
-    let mut one = [0u8; 1];
-    libc::read(fd, &mut one) >= 0
-}
-
-fn print_report(text: &[u8], out: &mut [u8; OUT]) {
-    match work::report(text, out) {
-        Printed::Bytes(n) => print_front(out, n),
-        Printed::Refused(why) => print_refused(why),
+    let printed = match work::report(text, &mut out) {
+        Printed::Bytes(n) => print_front(rt, &out, n),
+        Printed::Refused(why) => print_refused(rt, why),
+    };
+    match printed {
+        Ok(()) => ExitCode::SUCCESS,
+        Err(error) => fail(rt, "standard output", error),
     }
 }
 
 // The first n bytes. There are never more than `out` holds: the test spares a contract that says so.
-fn print_front(out: &[u8], n: usize) {
+fn print_front(rt: &HostRuntime, out: &[u8], n: usize) -> io::Result<()> {
     if n <= out.len() {
-        print(&out[0..n]);
+        return rt.write_all(&out[0..n]);
     }
+    Ok(())
 }
 
-fn print_refused(why: Refusal) {
-    let mut digits = [0u8; 20];
-    let n = io::decimal(number_of(why) as u64, &mut digits);
-    print(b"refused ");
-    print(&digits[..n]);
-    print(b"\n");
+fn print_refused(rt: &HostRuntime, why: Refusal) -> io::Result<()> {
+    println!(rt; "refused {}", number_of(why))
 }
 
-fn print(bytes: &[u8]) {
-    if !io::write_all(STDOUT_FILENO, bytes) {
-        os::fail(b"standard output");
-    }
+// A message on standard error, in which nothing can be said of one that fails.
+fn fail(rt: &HostRuntime, name: &str, why: impl Display + Drop) -> ExitCode {
+    let _ = eprintln!(rt; "{name}: {why}");
+    ExitCode::FAILURE
 }
