@@ -91,7 +91,7 @@ fn print_refused(rt: &HostRuntime, why: Refusal) -> io::Result<()> {
     println!(rt; "refused {}", number_of(why))
 }
 
-// A message on standard error, in which nothing can be said of one that fails.
+// Prints a message on standard error; one that can't be written is lost.
 fn fail(rt: &HostRuntime, name: &str, why: impl Display + Drop) -> ExitCode {
     let _ = eprintln!(rt; "{name}: {why}");
     ExitCode::FAILURE
