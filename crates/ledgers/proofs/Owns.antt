@@ -8,7 +8,7 @@ use native.Mathlib.Nat.{not-suc-le-zero}
 use native.Mathlib.Omega.{arith}
 use lib.ListN.{length, get_or, take, length-map, get_or-map}
 use lib.Seq.{get_or-take, length-take-le}
-use Rattle.sparse.specs.Matrix.{matrix, part, row, value_in, value_at}
+use Rattle.sparse.specs.Matrix.{matrix, row, value_in, value_at}
 use Rattle.sparse.specs.Rows.{Entry, entries, row_at, compressed}
 use Rattle.meaning.proofs.RowLists.{rows_compressed, part_entries}
 use Rattle.state.specs.Memory.{Memory, places}

@@ -2,7 +2,7 @@
 -- Assumes nothing.
 use mathlib.Core.Path.{◌≡◌, sym, ap, ◌∙◌}
 use mathlib.Core.List.{List, map, map-map}
-use Prim.Native.Nat.{ℕ, ◌+◌, ◌-◌, ◌≤◌}
+use Prim.Native.Nat.{ℕ, ◌+◌, ◌≤◌}
 use native.Mathlib.Omega.{arith}
 use lib.ListN.{length, drop, take, length-map}
 use Rattle.lists.specs.Onto.{◌onto◌}
@@ -17,7 +17,7 @@ use Rattle.market.specs.Asks.{from_zero, rows_in, cols_in, values_in, Entries, L
 use Rattle.market.specs.declared.lines.Numbers.{Numbers}
 use Rattle.market.proofs.Heads.{lines_length}
 use Rattle.reporting.specs.Said.{entries_of, said_by, Loadable, Loaded}
-use Rattle.reporting.proofs.Entries.{Small, small, many, parts, order}
+use Rattle.reporting.proofs.Entries.{Small, small, parts, order}
 
 -- the front of a list, where so many were written
 pub front : (new old : List ℕ) (n : ℕ) → length new ≡ n → take n (new onto old) ≡ new

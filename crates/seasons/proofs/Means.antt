@@ -183,7 +183,7 @@ known_same {p} {n} {q = q} {c = c} {m = m} e same w =
     subst (λ (i : ℕ). Known p n i q c m) e (record { stands = w.stands; modulus = w.modulus; ncols = w.ncols; rank = w.rank; held = held_same same w.held })
 
 -- a run of single steps
-known_rows : {p n k : ℕ} {r : ℕ → ℕ → ℕ} {c d : Counts} {m l : Memory} {ts : List Told} → Known p n k r c m → Strides p n c m ts d l → Known p n (k + length (accepted ts)) (followed k r (accepted ts)) d l
+known_rows : {p n k : ℕ} {r : ℕ → ℕ → ℕ} {c : Counts} {m : Memory} {d : Counts} {l : Memory} {ts : List Told} → Known p n k r c m → Strides p n c m ts d l → Known p n (k + length (accepted ts)) (followed k r (accepted ts)) d l
 unfolding accepted keep
 known_rows {k = k} {r = r} w still = known_same (sym (add-zero k)) (followed_first k r []) w
 known_rows {k = k} {r = r} w (stride ts d l past on es clean room) =
@@ -216,7 +216,7 @@ pub reached_none : {p n k : ℕ} {r : ℕ → ℕ → ℕ} {c : Counts} {m : Mem
 reached_none past on es clean = known_none (reached_known past) on es clean
 
 -- of each row of a run: a combination of the rows before the run, and of those accepted in it before
-pub reached_each : {p n k : ℕ} {r : ℕ → ℕ → ℕ} {c d : Counts} {m l : Memory} {ts : List Told} → Reached p n k r c m → Strides p n c m ts d l → (i : ℕ) → i < length ts
+pub reached_each : {p n k : ℕ} {r : ℕ → ℕ → ℕ} {c : Counts} {m : Memory} {d : Counts} {l : Memory} {ts : List Told} → Reached p n k r c m → Strides p n c m ts d l → (i : ℕ) → i < length ts
     → ((get_or ts i (told [] None)).answer ≡ None) ↔ Combination p n (k + length (accepted (take i ts))) (followed k r (accepted (take i ts))) (value_of (get_or ts i (told [] None)).row)
 reached_each past still i h = absurd (not-suc-le-zero h)
 reached_each {p} {n} {k} {r} past (stride ts d l before on es clean room) i h = go (dec_lt i (length ts)) (λ b. reached_each past before i b)
