@@ -5,7 +5,6 @@ use mathlib.Core.List.{List}
 use Prim.Native.Nat.{◌-◌, ◌≤◌}
 use native.Mathlib.Omega.{arith}
 use lib.ListN.{length, length-map}
-use Rattle.lists.specs.Onto.{◌onto◌}
 use Rattle.lists.proofs.Ontos.{length-onto}
 use Rattle.sparse.specs.declared.Tested.TheVariants.{Good}
 use Rattle.state.specs.Memory.{Memory}

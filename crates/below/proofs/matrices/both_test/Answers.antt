@@ -19,34 +19,34 @@ use Rattle.below.proofs.matrices.both_test.Goals.{After-lower_of-rows, In_defaul
 abbrev rows_of : Matrix → Tested
 rows_of m = rows_test m.nrows m.ncols m.row_ptrs m.col_idcs
 
-one_shaped : (c : In_default) → shape_test ((matrix c.args.nrows c.args.ncols c.args.row_ptrs.now c.args.col_idcs.now c.args.values.now)) ≡ Good
+one_shaped : (c : In_default) → shape_test (matrix c.args.nrows c.args.ncols c.args.row_ptrs.now c.args.col_idcs.now c.args.values.now) ≡ Good
 one_shaped c = sym c.shape_test-shape.ensures ∙ c.in_default.is
 
-two_shaped : (c : In_default-other) → shape_test ((matrix c.args.more_nrows c.args.more_ncols c.args.more_ptrs.now c.args.more_cols.now c.args.more_values.now)) ≡ Good
+two_shaped : (c : In_default-other) → shape_test (matrix c.args.more_nrows c.args.more_ncols c.args.more_ptrs.now c.args.more_cols.now c.args.more_values.now) ≡ Good
 two_shaped c = sym c.shape_test-other.ensures ∙ c.in_default-other.is
 
-found : (c : After-lower_of-rows) → c.lower_of-rows.result ≡ lower (rows_of ((matrix c.args.nrows c.args.ncols c.args.row_ptrs.now c.args.col_idcs.now c.args.values.now))) (rows_of ((matrix c.args.more_nrows c.args.more_ncols c.args.more_ptrs.now c.args.more_cols.now c.args.more_values.now)))
+found : (c : After-lower_of-rows) → c.lower_of-rows.result ≡ lower (rows_of (matrix c.args.nrows c.args.ncols c.args.row_ptrs.now c.args.col_idcs.now c.args.values.now)) (rows_of (matrix c.args.more_nrows c.args.more_ncols c.args.more_ptrs.now c.args.more_cols.now c.args.more_values.now))
 found c = c.lower_of-rows.ensures ∙ ap₂ lower c.rows_test-one.ensures c.rows_test-two.ensures
 
-lined : (c : In_default-rows) → (rows_of ((matrix c.args.nrows c.args.ncols c.args.row_ptrs.now c.args.col_idcs.now c.args.values.now)) ≡ Good) × (rows_of ((matrix c.args.more_nrows c.args.more_ncols c.args.more_ptrs.now c.args.more_cols.now c.args.more_values.now)) ≡ Good)
-lined c = lower_good _ _ (sym ((c.lower_of-rows.ensures ∙ ap₂ lower c.rows_test-one.ensures c.rows_test-two.ensures)) ∙ c.in_default-rows.is)
+lined : (c : In_default-rows) → (rows_of (matrix c.args.nrows c.args.ncols c.args.row_ptrs.now c.args.col_idcs.now c.args.values.now) ≡ Good) × (rows_of (matrix c.args.more_nrows c.args.more_ncols c.args.more_ptrs.now c.args.more_cols.now c.args.more_values.now) ≡ Good)
+lined c = lower_good _ _ (sym (c.lower_of-rows.ensures ∙ ap₂ lower c.rows_test-one.ensures c.rows_test-two.ensures) ∙ c.in_default-rows.is)
 
 -- after each test that found nothing, the rest decides
-past_one : (c : In_default) {x : Tested} → x ≡ lowest (drop 1 ((both_tests c.args.p ((matrix c.args.nrows c.args.ncols c.args.row_ptrs.now c.args.col_idcs.now c.args.values.now)) ((matrix c.args.more_nrows c.args.more_ncols c.args.more_ptrs.now c.args.more_cols.now c.args.more_values.now))))) → x ≡ lowest ((both_tests c.args.p ((matrix c.args.nrows c.args.ncols c.args.row_ptrs.now c.args.col_idcs.now c.args.values.now)) ((matrix c.args.more_nrows c.args.more_ncols c.args.more_ptrs.now c.args.more_cols.now c.args.more_values.now))))
+past_one : (c : In_default) {x : Tested} → x ≡ lowest (drop 1 (both_tests c.args.p (matrix c.args.nrows c.args.ncols c.args.row_ptrs.now c.args.col_idcs.now c.args.values.now) (matrix c.args.more_nrows c.args.more_ncols c.args.more_ptrs.now c.args.more_cols.now c.args.more_values.now))) → x ≡ lowest (both_tests c.args.p (matrix c.args.nrows c.args.ncols c.args.row_ptrs.now c.args.col_idcs.now c.args.values.now) (matrix c.args.more_nrows c.args.more_ncols c.args.more_ptrs.now c.args.more_cols.now c.args.more_values.now))
 unfolding both_tests
 past_one c h = lowest_next _ c.shape_test-shape.ensures c.in_default.is h
 
-past_two : (c : In_default-other) {x : Tested} → x ≡ lowest (drop 2 ((both_tests c.args.p ((matrix c.args.nrows c.args.ncols c.args.row_ptrs.now c.args.col_idcs.now c.args.values.now)) ((matrix c.args.more_nrows c.args.more_ncols c.args.more_ptrs.now c.args.more_cols.now c.args.more_values.now))))) → x ≡ lowest ((both_tests c.args.p ((matrix c.args.nrows c.args.ncols c.args.row_ptrs.now c.args.col_idcs.now c.args.values.now)) ((matrix c.args.more_nrows c.args.more_ncols c.args.more_ptrs.now c.args.more_cols.now c.args.more_values.now))))
+past_two : (c : In_default-other) {x : Tested} → x ≡ lowest (drop 2 (both_tests c.args.p (matrix c.args.nrows c.args.ncols c.args.row_ptrs.now c.args.col_idcs.now c.args.values.now) (matrix c.args.more_nrows c.args.more_ncols c.args.more_ptrs.now c.args.more_cols.now c.args.more_values.now))) → x ≡ lowest (both_tests c.args.p (matrix c.args.nrows c.args.ncols c.args.row_ptrs.now c.args.col_idcs.now c.args.values.now) (matrix c.args.more_nrows c.args.more_ncols c.args.more_ptrs.now c.args.more_cols.now c.args.more_values.now))
 unfolding both_tests
 past_two c h = (lowest_next _ c.shape_test-shape.ensures c.in_default.is (lowest_next _ c.shape_test-other.ensures c.in_default-other.is h))
 
-past_rows : (c : In_default-rows) {x : Tested} → x ≡ lowest (drop 3 ((both_tests c.args.p ((matrix c.args.nrows c.args.ncols c.args.row_ptrs.now c.args.col_idcs.now c.args.values.now)) ((matrix c.args.more_nrows c.args.more_ncols c.args.more_ptrs.now c.args.more_cols.now c.args.more_values.now))))) → x ≡ lowest ((both_tests c.args.p ((matrix c.args.nrows c.args.ncols c.args.row_ptrs.now c.args.col_idcs.now c.args.values.now)) ((matrix c.args.more_nrows c.args.more_ncols c.args.more_ptrs.now c.args.more_cols.now c.args.more_values.now))))
+past_rows : (c : In_default-rows) {x : Tested} → x ≡ lowest (drop 3 (both_tests c.args.p (matrix c.args.nrows c.args.ncols c.args.row_ptrs.now c.args.col_idcs.now c.args.values.now) (matrix c.args.more_nrows c.args.more_ncols c.args.more_ptrs.now c.args.more_cols.now c.args.more_values.now))) → x ≡ lowest (both_tests c.args.p (matrix c.args.nrows c.args.ncols c.args.row_ptrs.now c.args.col_idcs.now c.args.values.now) (matrix c.args.more_nrows c.args.more_ncols c.args.more_ptrs.now c.args.more_cols.now c.args.more_values.now))
 unfolding both_tests
-past_rows c h = ((lowest_next _ c.shape_test-shape.ensures c.in_default.is (lowest_next _ c.shape_test-other.ensures c.in_default-other.is (lowest_next _ ((c.lower_of-rows.ensures ∙ ap₂ lower c.rows_test-one.ensures c.rows_test-two.ensures)) c.in_default-rows.is h))))
+past_rows c h = (lowest_next _ c.shape_test-shape.ensures c.in_default.is (lowest_next _ c.shape_test-other.ensures c.in_default-other.is (lowest_next _ (c.lower_of-rows.ensures ∙ ap₂ lower c.rows_test-one.ensures c.rows_test-two.ensures) c.in_default-rows.is h)))
 
-past_residues : (c : In_default-residues) {x : Tested} → x ≡ lowest (drop 4 ((both_tests c.args.p ((matrix c.args.nrows c.args.ncols c.args.row_ptrs.now c.args.col_idcs.now c.args.values.now)) ((matrix c.args.more_nrows c.args.more_ncols c.args.more_ptrs.now c.args.more_cols.now c.args.more_values.now))))) → x ≡ lowest ((both_tests c.args.p ((matrix c.args.nrows c.args.ncols c.args.row_ptrs.now c.args.col_idcs.now c.args.values.now)) ((matrix c.args.more_nrows c.args.more_ncols c.args.more_ptrs.now c.args.more_cols.now c.args.more_values.now))))
+past_residues : (c : In_default-residues) {x : Tested} → x ≡ lowest (drop 4 (both_tests c.args.p (matrix c.args.nrows c.args.ncols c.args.row_ptrs.now c.args.col_idcs.now c.args.values.now) (matrix c.args.more_nrows c.args.more_ncols c.args.more_ptrs.now c.args.more_cols.now c.args.more_values.now))) → x ≡ lowest (both_tests c.args.p (matrix c.args.nrows c.args.ncols c.args.row_ptrs.now c.args.col_idcs.now c.args.values.now) (matrix c.args.more_nrows c.args.more_ncols c.args.more_ptrs.now c.args.more_cols.now c.args.more_values.now))
 unfolding both_tests
-past_residues c h = (((lowest_next _ c.shape_test-shape.ensures c.in_default.is (lowest_next _ c.shape_test-other.ensures c.in_default-other.is (lowest_next _ ((c.lower_of-rows.ensures ∙ ap₂ lower c.rows_test-one.ensures c.rows_test-two.ensures)) c.in_default-rows.is (lowest_next _ c.rows_values_test-residues.ensures c.in_default-residues.is h))))))
+past_residues c h = (lowest_next _ c.shape_test-shape.ensures c.in_default.is (lowest_next _ c.shape_test-other.ensures c.in_default-other.is (lowest_next _ (c.lower_of-rows.ensures ∙ ap₂ lower c.rows_test-one.ensures c.rows_test-two.ensures) c.in_default-rows.is (lowest_next _ c.rows_values_test-residues.ensures c.in_default-residues.is h))))
 
 pub shape_test-shape-requires : goal.shape_test-shape-requires
 shape_test-shape-requires c = omega (arith, c.requires)

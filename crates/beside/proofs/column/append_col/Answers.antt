@@ -9,7 +9,7 @@ use Rattle.beside.proofs.Passed.{col_sized, col_fits}
 use Rattle.beside.proofs.column.append_col.Goals as goal
 use Rattle.beside.proofs.column.append_col.Goals.{In_default}
 
-tested : (c : In_default) → append_col_test c.args.p ((matrix c.args.nrows c.args.ncols c.args.row_ptrs.now c.args.col_idcs.now c.args.values.now)) c.args.len c.args.idcs.now c.args.col_values.now ≡ Good
+tested : (c : In_default) → append_col_test c.args.p (matrix c.args.nrows c.args.ncols c.args.row_ptrs.now c.args.col_idcs.now c.args.values.now) c.args.len c.args.idcs.now c.args.col_values.now ≡ Good
 tested c = sym c.append_col_test-found.ensures ∙ c.in_default.is
 
 pub returns-in-Refused : goal.returns-in-Refused

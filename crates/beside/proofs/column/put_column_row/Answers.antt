@@ -27,7 +27,7 @@ put_matrix_row-requires c = row_less 0 c.requires.writes (omega arith)
 
 pub returns-then-after-next : goal.returns-then-after-next
 returns-then-after-next c = let none = column_none _ _ c.requires.each c.requires.cursor c.past_row-after.ensures c.args.n c.if-after-next.true in
-    c.put_matrix_row.ensures ∙ ap ((λ (es : List Entry). more es (put c.args.at c.args.out_cols.now c.args.out_vals.now))) (sym (append-nil ((row c.args.row_ptrs.now (entries c.args.col_idcs.now c.args.values.now) c.args.row))) ∙ ap (λ (l : List Entry). (row c.args.row_ptrs.now (entries c.args.col_idcs.now c.args.values.now) c.args.row) ++ l) (sym none))
+    c.put_matrix_row.ensures ∙ ap (λ (es : List Entry). more es (put c.args.at c.args.out_cols.now c.args.out_vals.now)) (sym (append-nil (row c.args.row_ptrs.now (entries c.args.col_idcs.now c.args.values.now) c.args.row)) ∙ ap (λ (l : List Entry). (row c.args.row_ptrs.now (entries c.args.col_idcs.now c.args.values.now) c.args.row) ++ l) (sym none))
 
 pub offset_bounds-nums-next : goal.offset_bounds-nums-next
 offset_bounds-nums-next c = omega (arith, (found (goal.at.offset_bounds-nums-next c).Else-after-next).0)
@@ -39,4 +39,4 @@ pub put_row_and-requires : goal.put_row_and-requires
 put_row_and-requires c = row_less 1 c.requires.writes (le_of_eq (sym (ap length (found (goal.at.put_row_and-requires c).Else-after-next).1)))
 
 pub returns : goal.returns
-returns c = c.put_row_and.ensures ∙ ap ((λ (es : List Entry). more es (put c.args.at c.args.out_cols.now c.args.out_vals.now))) (ap (λ (l : List Entry). (row c.args.row_ptrs.now (entries c.args.col_idcs.now c.args.values.now) c.args.row) ++ l) (sym (found (goal.at.returns c).Else-after-next).1))
+returns c = c.put_row_and.ensures ∙ ap (λ (es : List Entry). more es (put c.args.at c.args.out_cols.now c.args.out_vals.now)) (ap (λ (l : List Entry). (row c.args.row_ptrs.now (entries c.args.col_idcs.now c.args.values.now) c.args.row) ++ l) (sym (found (goal.at.returns c).Else-after-next).1))

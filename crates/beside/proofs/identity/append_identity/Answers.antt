@@ -10,7 +10,7 @@ use Rattle.beside.proofs.Sizes.{ones_sized}
 use Rattle.beside.proofs.identity.append_identity.Goals as goal
 use Rattle.beside.proofs.identity.append_identity.Goals.{In_default}
 
-tested : (c : In_default) → append_identity_test c.args.p ((matrix c.args.nrows c.args.ncols c.args.row_ptrs.now c.args.col_idcs.now c.args.values.now)) ≡ Good
+tested : (c : In_default) → append_identity_test c.args.p (matrix c.args.nrows c.args.ncols c.args.row_ptrs.now c.args.col_idcs.now c.args.values.now) ≡ Good
 tested c = sym c.append_identity_test-found.ensures ∙ c.in_default.is
 
 pub returns-in-Refused : goal.returns-in-Refused

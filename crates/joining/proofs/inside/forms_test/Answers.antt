@@ -14,32 +14,32 @@ use Rattle.joining.specs.Joined.{forms_tests, pairs_test}
 use Rattle.joining.proofs.inside.forms_test.Goals as goal
 use Rattle.joining.proofs.inside.forms_test.Goals.{Else-idcs-nums, In_default, In_default-columns, In_default-residues, In_default-rows}
 
-shaped : (c : In_default) → shape_test ((matrix c.args.nrows c.args.ncols c.args.row_ptrs.now c.args.col_idcs.now c.args.values.now)) ≡ Good
+shaped : (c : In_default) → shape_test (matrix c.args.nrows c.args.ncols c.args.row_ptrs.now c.args.col_idcs.now c.args.values.now) ≡ Good
 shaped c = sym c.shape_test-shape.ensures ∙ c.in_default.is
 
 lined : (c : In_default-rows) → let m = (matrix c.args.nrows c.args.ncols c.args.row_ptrs.now c.args.col_idcs.now c.args.values.now) in rows_test m.nrows m.ncols m.row_ptrs m.col_idcs ≡ Good
 lined c = sym c.rows_test-rows.ensures ∙ c.in_default-rows.is
 
 -- after each test that found nothing, the rest decides
-past_shape : (c : In_default) {x : Tested} → x ≡ lowest (drop 1 ((forms_tests c.args.p ((matrix c.args.nrows c.args.ncols c.args.row_ptrs.now c.args.col_idcs.now c.args.values.now)) c.args.len c.args.idcs.now c.args.nums.now))) → x ≡ lowest ((forms_tests c.args.p ((matrix c.args.nrows c.args.ncols c.args.row_ptrs.now c.args.col_idcs.now c.args.values.now)) c.args.len c.args.idcs.now c.args.nums.now))
+past_shape : (c : In_default) {x : Tested} → x ≡ lowest (drop 1 (forms_tests c.args.p (matrix c.args.nrows c.args.ncols c.args.row_ptrs.now c.args.col_idcs.now c.args.values.now) c.args.len c.args.idcs.now c.args.nums.now)) → x ≡ lowest (forms_tests c.args.p (matrix c.args.nrows c.args.ncols c.args.row_ptrs.now c.args.col_idcs.now c.args.values.now) c.args.len c.args.idcs.now c.args.nums.now)
 unfolding forms_tests
 past_shape c h = lowest_next _ c.shape_test-shape.ensures c.in_default.is h
 
-past_pairs : (c : Else-idcs-nums) {x : Tested} → x ≡ lowest (drop 2 ((forms_tests c.args.p ((matrix c.args.nrows c.args.ncols c.args.row_ptrs.now c.args.col_idcs.now c.args.values.now)) c.args.len c.args.idcs.now c.args.nums.now))) → x ≡ lowest ((forms_tests c.args.p ((matrix c.args.nrows c.args.ncols c.args.row_ptrs.now c.args.col_idcs.now c.args.values.now)) c.args.len c.args.idcs.now c.args.nums.now))
+past_pairs : (c : Else-idcs-nums) {x : Tested} → x ≡ lowest (drop 2 (forms_tests c.args.p (matrix c.args.nrows c.args.ncols c.args.row_ptrs.now c.args.col_idcs.now c.args.values.now) c.args.len c.args.idcs.now c.args.nums.now)) → x ≡ lowest (forms_tests c.args.p (matrix c.args.nrows c.args.ncols c.args.row_ptrs.now c.args.col_idcs.now c.args.values.now) c.args.len c.args.idcs.now c.args.nums.now)
 unfolding forms_tests pairs_test refuse
 past_pairs c h = (lowest_next _ c.shape_test-shape.ensures c.in_default.is (lowest_next _ refl (rw (eq-eqb _ _ c.if-idcs-nums.false)) h))
 
-past_rows : (c : In_default-rows) {x : Tested} → x ≡ lowest (drop 3 ((forms_tests c.args.p ((matrix c.args.nrows c.args.ncols c.args.row_ptrs.now c.args.col_idcs.now c.args.values.now)) c.args.len c.args.idcs.now c.args.nums.now))) → x ≡ lowest ((forms_tests c.args.p ((matrix c.args.nrows c.args.ncols c.args.row_ptrs.now c.args.col_idcs.now c.args.values.now)) c.args.len c.args.idcs.now c.args.nums.now))
+past_rows : (c : In_default-rows) {x : Tested} → x ≡ lowest (drop 3 (forms_tests c.args.p (matrix c.args.nrows c.args.ncols c.args.row_ptrs.now c.args.col_idcs.now c.args.values.now) c.args.len c.args.idcs.now c.args.nums.now)) → x ≡ lowest (forms_tests c.args.p (matrix c.args.nrows c.args.ncols c.args.row_ptrs.now c.args.col_idcs.now c.args.values.now) c.args.len c.args.idcs.now c.args.nums.now)
 unfolding forms_tests pairs_test refuse
-past_rows c h = ((lowest_next _ c.shape_test-shape.ensures c.in_default.is (lowest_next _ refl (rw (eq-eqb _ _ c.if-idcs-nums.false)) (lowest_next _ c.rows_test-rows.ensures c.in_default-rows.is h))))
+past_rows c h = (lowest_next _ c.shape_test-shape.ensures c.in_default.is (lowest_next _ refl (rw (eq-eqb _ _ c.if-idcs-nums.false)) (lowest_next _ c.rows_test-rows.ensures c.in_default-rows.is h)))
 
-past_columns : (c : In_default-columns) {x : Tested} → x ≡ lowest (drop 4 ((forms_tests c.args.p ((matrix c.args.nrows c.args.ncols c.args.row_ptrs.now c.args.col_idcs.now c.args.values.now)) c.args.len c.args.idcs.now c.args.nums.now))) → x ≡ lowest ((forms_tests c.args.p ((matrix c.args.nrows c.args.ncols c.args.row_ptrs.now c.args.col_idcs.now c.args.values.now)) c.args.len c.args.idcs.now c.args.nums.now))
+past_columns : (c : In_default-columns) {x : Tested} → x ≡ lowest (drop 4 (forms_tests c.args.p (matrix c.args.nrows c.args.ncols c.args.row_ptrs.now c.args.col_idcs.now c.args.values.now) c.args.len c.args.idcs.now c.args.nums.now)) → x ≡ lowest (forms_tests c.args.p (matrix c.args.nrows c.args.ncols c.args.row_ptrs.now c.args.col_idcs.now c.args.values.now) c.args.len c.args.idcs.now c.args.nums.now)
 unfolding forms_tests pairs_test refuse
-past_columns c h = (((lowest_next _ c.shape_test-shape.ensures c.in_default.is (lowest_next _ refl (rw (eq-eqb _ _ c.if-idcs-nums.false)) (lowest_next _ c.rows_test-rows.ensures c.in_default-rows.is (lowest_next _ c.columns_test-columns.ensures c.in_default-columns.is h))))))
+past_columns c h = (lowest_next _ c.shape_test-shape.ensures c.in_default.is (lowest_next _ refl (rw (eq-eqb _ _ c.if-idcs-nums.false)) (lowest_next _ c.rows_test-rows.ensures c.in_default-rows.is (lowest_next _ c.columns_test-columns.ensures c.in_default-columns.is h))))
 
-past_residues : (c : In_default-residues) {x : Tested} → x ≡ lowest (drop 5 ((forms_tests c.args.p ((matrix c.args.nrows c.args.ncols c.args.row_ptrs.now c.args.col_idcs.now c.args.values.now)) c.args.len c.args.idcs.now c.args.nums.now))) → x ≡ lowest ((forms_tests c.args.p ((matrix c.args.nrows c.args.ncols c.args.row_ptrs.now c.args.col_idcs.now c.args.values.now)) c.args.len c.args.idcs.now c.args.nums.now))
+past_residues : (c : In_default-residues) {x : Tested} → x ≡ lowest (drop 5 (forms_tests c.args.p (matrix c.args.nrows c.args.ncols c.args.row_ptrs.now c.args.col_idcs.now c.args.values.now) c.args.len c.args.idcs.now c.args.nums.now)) → x ≡ lowest (forms_tests c.args.p (matrix c.args.nrows c.args.ncols c.args.row_ptrs.now c.args.col_idcs.now c.args.values.now) c.args.len c.args.idcs.now c.args.nums.now)
 unfolding forms_tests pairs_test refuse
-past_residues c h = ((((lowest_next _ c.shape_test-shape.ensures c.in_default.is (lowest_next _ refl (rw (eq-eqb _ _ c.if-idcs-nums.false)) (lowest_next _ c.rows_test-rows.ensures c.in_default-rows.is (lowest_next _ c.columns_test-columns.ensures c.in_default-columns.is (lowest_next _ c.rows_values_test-residues.ensures c.in_default-residues.is h))))))))
+past_residues c h = (lowest_next _ c.shape_test-shape.ensures c.in_default.is (lowest_next _ refl (rw (eq-eqb _ _ c.if-idcs-nums.false)) (lowest_next _ c.rows_test-rows.ensures c.in_default-rows.is (lowest_next _ c.columns_test-columns.ensures c.in_default-columns.is (lowest_next _ c.rows_values_test-residues.ensures c.in_default-residues.is h)))))
 
 pub returns-in-Refused : goal.returns-in-Refused
 unfolding forms_tests

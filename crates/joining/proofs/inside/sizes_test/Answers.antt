@@ -12,17 +12,17 @@ use Rattle.joining.proofs.inside.sizes_test.Goals as goal
 use Rattle.joining.proofs.inside.sizes_test.Goals.{In_default, In_default-first, In_default-second}
 
 -- after each test that found nothing, the rest decides
-past_modulus : (c : In_default) {x : Tested} → x ≡ lowest (drop 1 ((let a = c.args in sizes_tests a.p a.nrows a.ncols a.entries a.more_rows a.more_cols a.more_entries a.add_rows a.add_cols))) → x ≡ lowest ((let a = c.args in sizes_tests a.p a.nrows a.ncols a.entries a.more_rows a.more_cols a.more_entries a.add_rows a.add_cols))
+past_modulus : (c : In_default) {x : Tested} → x ≡ lowest (drop 1 (let a = c.args in sizes_tests a.p a.nrows a.ncols a.entries a.more_rows a.more_cols a.more_entries a.add_rows a.add_cols)) → x ≡ lowest (let a = c.args in sizes_tests a.p a.nrows a.ncols a.entries a.more_rows a.more_cols a.more_entries a.add_rows a.add_cols)
 unfolding sizes_tests
 past_modulus c h = lowest_next _ c.modulus_test-modulus.ensures c.in_default.is h
 
-past_first : (c : In_default-first) {x : Tested} → x ≡ lowest (drop 2 ((let a = c.args in sizes_tests a.p a.nrows a.ncols a.entries a.more_rows a.more_cols a.more_entries a.add_rows a.add_cols))) → x ≡ lowest ((let a = c.args in sizes_tests a.p a.nrows a.ncols a.entries a.more_rows a.more_cols a.more_entries a.add_rows a.add_cols))
+past_first : (c : In_default-first) {x : Tested} → x ≡ lowest (drop 2 (let a = c.args in sizes_tests a.p a.nrows a.ncols a.entries a.more_rows a.more_cols a.more_entries a.add_rows a.add_cols)) → x ≡ lowest (let a = c.args in sizes_tests a.p a.nrows a.ncols a.entries a.more_rows a.more_cols a.more_entries a.add_rows a.add_cols)
 unfolding sizes_tests
 past_first c h = (lowest_next _ c.modulus_test-modulus.ensures c.in_default.is (lowest_next _ c.size_test-first.ensures c.in_default-first.is h))
 
-past_second : (c : In_default-second) {x : Tested} → x ≡ lowest (drop 3 ((let a = c.args in sizes_tests a.p a.nrows a.ncols a.entries a.more_rows a.more_cols a.more_entries a.add_rows a.add_cols))) → x ≡ lowest ((let a = c.args in sizes_tests a.p a.nrows a.ncols a.entries a.more_rows a.more_cols a.more_entries a.add_rows a.add_cols))
+past_second : (c : In_default-second) {x : Tested} → x ≡ lowest (drop 3 (let a = c.args in sizes_tests a.p a.nrows a.ncols a.entries a.more_rows a.more_cols a.more_entries a.add_rows a.add_cols)) → x ≡ lowest (let a = c.args in sizes_tests a.p a.nrows a.ncols a.entries a.more_rows a.more_cols a.more_entries a.add_rows a.add_cols)
 unfolding sizes_tests
-past_second c h = ((lowest_next _ c.modulus_test-modulus.ensures c.in_default.is (lowest_next _ c.size_test-first.ensures c.in_default-first.is (lowest_next _ c.size_test-second.ensures c.in_default-second.is h))))
+past_second c h = (lowest_next _ c.modulus_test-modulus.ensures c.in_default.is (lowest_next _ c.size_test-first.ensures c.in_default-first.is (lowest_next _ c.size_test-second.ensures c.in_default-second.is h)))
 
 one : (c : In_default-first) → let a = c.args in Small 65536 a.nrows a.ncols a.entries
 one c = small _ _ _ _ (sym c.size_test-first.ensures ∙ c.in_default-first.is)

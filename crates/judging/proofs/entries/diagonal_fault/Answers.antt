@@ -18,7 +18,7 @@ pub returns-then-some_astray : goal.returns-then-some_astray
 returns-then-some_astray c = sym (diagonal_is c.requires _ (omega (arith, c.if-l_cols-eq0.false)) ∙ rw (sym c.some_astray.ensures ∙ c.if-some_astray.true))
 
 pub overflow_cast-row : goal.overflow_cast-row
-overflow_cast-row c = record { fits = omega (arith, c.shared_slice_known-6-1.given (length c.args.l_cols.now - 1)) }
+overflow_cast-row c = record { fits = omega (arith, c.type_inv.l_cols (length c.args.l_cols.now - 1)) }
 
 pub returns-then-row-earlier : goal.returns-then-row-earlier
 returns-then-row-earlier c = sym (diagonal_is c.requires _ (omega (arith, c.if-l_cols-eq0.false)) ∙ rw (sym c.some_astray.ensures ∙ c.if-some_astray.false, ne_eqb _ _ c.if-row-earlier.true))

@@ -5,7 +5,7 @@ use Rattle.judging.proofs.Names.{astray_later, astray_falls, astray_value, place
 use Rattle.judging.proofs.entries.is_astray.Goals as goal
 
 pub overflow_cast-row : goal.overflow_cast-row
-overflow_cast-row c = record { fits = omega (arith, c.shared_slice_known-6-1.given c.args.at) }
+overflow_cast-row c = record { fits = omega (arith, c.type_inv.l_cols c.args.at) }
 
 pub returns-then-row-earlier : goal.returns-then-row-earlier
 returns-then-row-earlier c = astray_later c.requires.all _ _ c.requires.within c.if-row-earlier.true

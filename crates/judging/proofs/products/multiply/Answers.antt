@@ -17,7 +17,7 @@ pub bounds-l_vals-i : goal.bounds-l_vals-i
 bounds-l_vals-i c = omega (arith, c.requires.same)
 
 pub overflow_cast-row : goal.overflow_cast-row
-overflow_cast-row c = record { fits = omega (arith, c.shared_slice_known-in-loop-i-1.given c.loop-i.i) }
+overflow_cast-row c = record { fits = omega (arith, c.type_inv.l_cols c.loop-i.i) }
 
 pub add_u_row-requires : goal.add_u_row-requires
 add_u_row-requires c = record { pivot = c.requires.rows.each _ (c.requires.names _ c.loop-i-test.true); long = multiplied_long c.loop-i.invariant; small = multiplied_small c.loop-i.invariant c.requires.positive }

@@ -12,12 +12,12 @@ use Rattle.lasts.proofs.gather.last_at.Goals as goal
 use Rattle.lasts.proofs.gather.last_at.Goals.{Else-row}
 
 -- past the mark: the source is a row
-is_row : (c : Else-row) → c.source-row.result < ((let a = c.args in matrix a.nrows a.ncols a.row_ptrs.now a.col_idcs.now a.values.now)).nrows
+is_row : (c : Else-row) → c.source-row.result < (let a = c.args in matrix a.nrows a.ncols a.row_ptrs.now a.col_idcs.now a.values.now).nrows
 unfolding mark
-is_row c = rw c.source-row.ensures (source_row c.args.order ((let a = c.args in matrix a.nrows a.ncols a.row_ptrs.now a.col_idcs.now a.values.now)) c.args.pivots.now c.args.k c.requires (λ e. omega (arith, c.if-row.false, c.source-row.ensures)))
+is_row c = rw c.source-row.ensures (source_row c.args.order (let a = c.args in matrix a.nrows a.ncols a.row_ptrs.now a.col_idcs.now a.values.now) c.args.pivots.now c.args.k c.requires (λ e. omega (arith, c.if-row.false, c.source-row.ensures)))
 
-lies : (c : Else-row) → RowIn ((let a = c.args in matrix a.nrows a.ncols a.row_ptrs.now a.col_idcs.now a.values.now)) c.source-row.result
-lies c = row_within ((let a = c.args in matrix a.nrows a.ncols a.row_ptrs.now a.col_idcs.now a.values.now)) _ c.requires.from.whole (is_row c)
+lies : (c : Else-row) → RowIn (let a = c.args in matrix a.nrows a.ncols a.row_ptrs.now a.col_idcs.now a.values.now) c.source-row.result
+lies c = row_within (let a = c.args in matrix a.nrows a.ncols a.row_ptrs.now a.col_idcs.now a.values.now) _ c.requires.from.whole (is_row c)
 
 pub returns-then-row : goal.returns-then-row
 unfolding held mark
@@ -55,10 +55,10 @@ slice_bounds-last_in-end-2 c = omega (arith, lies (goal.at.slice_bounds-last_in-
 
 pub last_in-requires : goal.last_in-requires
 unfolding row part
-last_in-requires c = row_climbing ((let a = c.args in matrix a.nrows a.ncols a.row_ptrs.now a.col_idcs.now a.values.now)) c.requires.from.whole _ (is_row (goal.at.last_in-requires c).Else-row)
+last_in-requires c = row_climbing (let a = c.args in matrix a.nrows a.ncols a.row_ptrs.now a.col_idcs.now a.values.now) c.requires.from.whole _ (is_row (goal.at.last_in-requires c).Else-row)
 
 pub returns : goal.returns
 unfolding row part mark
 returns c = c.last_in.ensures c.args.k
-    ∙ sym (last_of_row ((let a = c.args in matrix a.nrows a.ncols a.row_ptrs.now a.col_idcs.now a.values.now)) _ c.requires.from.whole (is_row (goal.at.returns c).Else-row) c.args.k)
-    ∙ rw c.source-row.ensures (sym (taken_last c.args.order ((let a = c.args in matrix a.nrows a.ncols a.row_ptrs.now a.col_idcs.now a.values.now)) c.args.pivots.now c.args.k (λ q. c.if-row.false (c.source-row.ensures ∙ q))))
+    ∙ sym (last_of_row (let a = c.args in matrix a.nrows a.ncols a.row_ptrs.now a.col_idcs.now a.values.now) _ c.requires.from.whole (is_row (goal.at.returns c).Else-row) c.args.k)
+    ∙ rw c.source-row.ensures (sym (taken_last c.args.order (let a = c.args in matrix a.nrows a.ncols a.row_ptrs.now a.col_idcs.now a.values.now) c.args.pivots.now c.args.k (λ q. c.if-row.false (c.source-row.ensures ∙ q))))

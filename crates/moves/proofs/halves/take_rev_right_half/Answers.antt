@@ -9,7 +9,7 @@ use Rattle.moves.proofs.HalfRows.{half_sized, half_rows, half_fits}
 use Rattle.moves.proofs.halves.take_rev_right_half.Goals as goal
 use Rattle.moves.proofs.halves.take_rev_right_half.Goals.{In_default}
 
-tested : (c : In_default) → take_rev_test c.args.p ((matrix c.args.nrows c.args.ncols c.args.row_ptrs.now c.args.col_idcs.now c.args.values.now)) ≡ Good
+tested : (c : In_default) → take_rev_test c.args.p (matrix c.args.nrows c.args.ncols c.args.row_ptrs.now c.args.col_idcs.now c.args.values.now) ≡ Good
 tested c = sym c.take_rev_test-found.ensures ∙ c.in_default.is
 
 pub returns-in-Refused : goal.returns-in-Refused

@@ -10,7 +10,7 @@ use Rattle.moves.proofs.SortPassed.{sort_sized, sort_rows, sort_fits}
 use Rattle.moves.proofs.sorted.sort_rows_by_pivot.Goals as goal
 use Rattle.moves.proofs.sorted.sort_rows_by_pivot.Goals.{In_default}
 
-tested : (c : In_default) → table_test c.args.p ((matrix c.args.nrows c.args.ncols c.args.row_ptrs.now c.args.col_idcs.now c.args.values.now)) c.args.pivots.now ≡ Good
+tested : (c : In_default) → table_test c.args.p (matrix c.args.nrows c.args.ncols c.args.row_ptrs.now c.args.col_idcs.now c.args.values.now) c.args.pivots.now ≡ Good
 tested c = sym c.table_test-found.ensures ∙ c.in_default.is
 
 pub returns-in-Refused : goal.returns-in-Refused

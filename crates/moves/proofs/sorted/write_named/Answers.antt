@@ -17,7 +17,7 @@ unfolding mark
 loop-k-preserved-then-named c = naming_skip _ _ _ c.requires c.loop-k.invariant c.loop-k-test.true c.if-named.true
 
 pub overflow_cast-i : goal.overflow_cast-i
-overflow_cast-i c = omega (arith, c.shared_slice_known-in-loop-k-1.given c.loop-k.k)
+overflow_cast-i c = omega (arith, c.type_inv.pivots c.loop-k.k)
 
 pub put_matrix_row-at-requires : goal.put_matrix_row-at-requires
 unfolding mark

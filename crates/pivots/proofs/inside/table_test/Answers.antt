@@ -25,17 +25,17 @@ tests p m pivots =
     ∷ []
 
 -- after each test that found nothing, the rest decides
-past_modulus : (c : In_default) {x : Tested} → x ≡ lowest (drop 1 (tests c.args.p ((matrix c.args.nrows c.args.ncols c.args.row_ptrs.now c.args.col_idcs.now c.args.values.now)) c.args.pivots.now)) → x ≡ lowest (tests c.args.p ((matrix c.args.nrows c.args.ncols c.args.row_ptrs.now c.args.col_idcs.now c.args.values.now)) c.args.pivots.now)
+past_modulus : (c : In_default) {x : Tested} → x ≡ lowest (drop 1 (tests c.args.p (matrix c.args.nrows c.args.ncols c.args.row_ptrs.now c.args.col_idcs.now c.args.values.now) c.args.pivots.now)) → x ≡ lowest (tests c.args.p (matrix c.args.nrows c.args.ncols c.args.row_ptrs.now c.args.col_idcs.now c.args.values.now) c.args.pivots.now)
 past_modulus c h = lowest_next _ c.modulus_test-modulus.ensures c.in_default.is h
 
-past_size : (c : In_default-size) {x : Tested} → x ≡ lowest (drop 2 (tests c.args.p ((matrix c.args.nrows c.args.ncols c.args.row_ptrs.now c.args.col_idcs.now c.args.values.now)) c.args.pivots.now)) → x ≡ lowest (tests c.args.p ((matrix c.args.nrows c.args.ncols c.args.row_ptrs.now c.args.col_idcs.now c.args.values.now)) c.args.pivots.now)
+past_size : (c : In_default-size) {x : Tested} → x ≡ lowest (drop 2 (tests c.args.p (matrix c.args.nrows c.args.ncols c.args.row_ptrs.now c.args.col_idcs.now c.args.values.now) c.args.pivots.now)) → x ≡ lowest (tests c.args.p (matrix c.args.nrows c.args.ncols c.args.row_ptrs.now c.args.col_idcs.now c.args.values.now) c.args.pivots.now)
 past_size c h = (lowest_next _ c.modulus_test-modulus.ensures c.in_default.is (lowest_next _ c.size_test-size.ensures c.in_default-size.is h))
 
-past_length : (c : In_default-length) {x : Tested} → x ≡ lowest (drop 3 (tests c.args.p ((matrix c.args.nrows c.args.ncols c.args.row_ptrs.now c.args.col_idcs.now c.args.values.now)) c.args.pivots.now)) → x ≡ lowest (tests c.args.p ((matrix c.args.nrows c.args.ncols c.args.row_ptrs.now c.args.col_idcs.now c.args.values.now)) c.args.pivots.now)
-past_length c h = ((lowest_next _ c.modulus_test-modulus.ensures c.in_default.is (lowest_next _ c.size_test-size.ensures c.in_default-size.is (lowest_next _ c.length_test-length.ensures c.in_default-length.is h))))
+past_length : (c : In_default-length) {x : Tested} → x ≡ lowest (drop 3 (tests c.args.p (matrix c.args.nrows c.args.ncols c.args.row_ptrs.now c.args.col_idcs.now c.args.values.now) c.args.pivots.now)) → x ≡ lowest (tests c.args.p (matrix c.args.nrows c.args.ncols c.args.row_ptrs.now c.args.col_idcs.now c.args.values.now) c.args.pivots.now)
+past_length c h = (lowest_next _ c.modulus_test-modulus.ensures c.in_default.is (lowest_next _ c.size_test-size.ensures c.in_default-size.is (lowest_next _ c.length_test-length.ensures c.in_default-length.is h)))
 
-past_formed : (c : In_default-formed) {x : Tested} → x ≡ lowest (drop 4 (tests c.args.p ((matrix c.args.nrows c.args.ncols c.args.row_ptrs.now c.args.col_idcs.now c.args.values.now)) c.args.pivots.now)) → x ≡ lowest (tests c.args.p ((matrix c.args.nrows c.args.ncols c.args.row_ptrs.now c.args.col_idcs.now c.args.values.now)) c.args.pivots.now)
-past_formed c h = (((lowest_next _ c.modulus_test-modulus.ensures c.in_default.is (lowest_next _ c.size_test-size.ensures c.in_default-size.is (lowest_next _ c.length_test-length.ensures c.in_default-length.is (lowest_next _ c.matrix_test-formed.ensures c.in_default-formed.is h))))))
+past_formed : (c : In_default-formed) {x : Tested} → x ≡ lowest (drop 4 (tests c.args.p (matrix c.args.nrows c.args.ncols c.args.row_ptrs.now c.args.col_idcs.now c.args.values.now) c.args.pivots.now)) → x ≡ lowest (tests c.args.p (matrix c.args.nrows c.args.ncols c.args.row_ptrs.now c.args.col_idcs.now c.args.values.now) c.args.pivots.now)
+past_formed c h = (lowest_next _ c.modulus_test-modulus.ensures c.in_default.is (lowest_next _ c.size_test-size.ensures c.in_default-size.is (lowest_next _ c.length_test-length.ensures c.in_default-length.is (lowest_next _ c.matrix_test-formed.ensures c.in_default-formed.is h))))
 
 pub returns-in-Refused : goal.returns-in-Refused
 unfolding table_test

@@ -16,18 +16,18 @@ use Rattle.readers.proofs.rows.last_row.Goals as goal
 use Rattle.readers.proofs.rows.last_row.Goals.{Else-nrows-eq0, In_default, In_default-room}
 
 -- past the tests: they found nothing
-formed : (c : In_default) → well_formed 65536 c.args.p ((let a = c.args in matrix a.nrows a.ncols a.row_ptrs.now a.col_idcs.now a.values.now)) ≡ Good
+formed : (c : In_default) → well_formed 65536 c.args.p (let a = c.args in matrix a.nrows a.ncols a.row_ptrs.now a.col_idcs.now a.values.now) ≡ Good
 formed c = sym c.well_formed-found.ensures ∙ c.in_default.is
 
-lays : (c : In_default) → Laid ((let a = c.args in matrix a.nrows a.ncols a.row_ptrs.now a.col_idcs.now a.values.now))
-lays c = formed_laid 65536 c.args.p ((let a = c.args in matrix a.nrows a.ncols a.row_ptrs.now a.col_idcs.now a.values.now)) (formed c)
+lays : (c : In_default) → Laid (let a = c.args in matrix a.nrows a.ncols a.row_ptrs.now a.col_idcs.now a.values.now)
+lays c = formed_laid 65536 c.args.p (let a = c.args in matrix a.nrows a.ncols a.row_ptrs.now a.col_idcs.now a.values.now) (formed c)
 
 -- there is a row
-some_row : (c : Else-nrows-eq0) → 0 < ((let a = c.args in matrix a.nrows a.ncols a.row_ptrs.now a.col_idcs.now a.values.now)).nrows
+some_row : (c : Else-nrows-eq0) → 0 < (let a = c.args in matrix a.nrows a.ncols a.row_ptrs.now a.col_idcs.now a.values.now).nrows
 some_row c = let n : c.args.nrows ≡ 0 → ⊥ = c.if-nrows-eq0.false in omega arith
 
-within : (c : Else-nrows-eq0) → get_or ((let a = c.args in matrix a.nrows a.ncols a.row_ptrs.now a.col_idcs.now a.values.now)).row_ptrs (((let a = c.args in matrix a.nrows a.ncols a.row_ptrs.now a.col_idcs.now a.values.now)).nrows - 1) 0 ≤ length ((let a = c.args in matrix a.nrows a.ncols a.row_ptrs.now a.col_idcs.now a.values.now)).values
-within c = starts_within ((let a = c.args in matrix a.nrows a.ncols a.row_ptrs.now a.col_idcs.now a.values.now)) ((formed_laid 65536 c.args.p ((let a = c.args in matrix a.nrows a.ncols a.row_ptrs.now a.col_idcs.now a.values.now)) ((sym c.well_formed-found.ensures ∙ c.in_default.is)))) (some_row c)
+within : (c : Else-nrows-eq0) → get_or (let a = c.args in matrix a.nrows a.ncols a.row_ptrs.now a.col_idcs.now a.values.now).row_ptrs ((let a = c.args in matrix a.nrows a.ncols a.row_ptrs.now a.col_idcs.now a.values.now).nrows - 1) 0 ≤ length (let a = c.args in matrix a.nrows a.ncols a.row_ptrs.now a.col_idcs.now a.values.now).values
+within c = starts_within (let a = c.args in matrix a.nrows a.ncols a.row_ptrs.now a.col_idcs.now a.values.now) (formed_laid 65536 c.args.p (let a = c.args in matrix a.nrows a.ncols a.row_ptrs.now a.col_idcs.now a.values.now) (sym c.well_formed-found.ensures ∙ c.in_default.is)) (some_row c)
 
 -- past the room: there is enough
 roomy : (c : In_default-room) → let m = (let a = c.args in matrix a.nrows a.ncols a.row_ptrs.now a.col_idcs.now a.values.now) in let a = c.args in vector_room_test (length m.values - get_or m.row_ptrs (m.nrows - 1) 0) (lent_vector a.out_idcs.now a.out_vals.now) ≡ Good
@@ -49,7 +49,7 @@ overflow_sub-values c = omega (arith, within (goal.at.overflow_sub-values c).Els
 
 pub returns-in-Refused-room : goal.returns-in-Refused-room
 unfolding last_row unless
-returns-in-Refused-room c = rw (formed (goal.at.returns-in-Refused-room c).In_default, ne_eqb _ _ c.if-nrows-eq0.false, last_long ((let a = c.args in matrix a.nrows a.ncols a.row_ptrs.now a.col_idcs.now a.values.now)) (lays (goal.at.returns-in-Refused-room c).In_default) (some_row (goal.at.returns-in-Refused-room c).Else-nrows-eq0), ← c.vector_room_test-room.ensures, c.in-Refused-room.is)
+returns-in-Refused-room c = rw (formed (goal.at.returns-in-Refused-room c).In_default, ne_eqb _ _ c.if-nrows-eq0.false, last_long (let a = c.args in matrix a.nrows a.ncols a.row_ptrs.now a.col_idcs.now a.values.now) (lays (goal.at.returns-in-Refused-room c).In_default) (some_row (goal.at.returns-in-Refused-room c).Else-nrows-eq0), ← c.vector_room_test-room.ensures, c.in-Refused-room.is)
 
 pub offset_bounds-col_idcs-start : goal.offset_bounds-col_idcs-start
 offset_bounds-col_idcs-start c = omega (arith, within (goal.at.offset_bounds-col_idcs-start c).Else-nrows-eq0, (lays (goal.at.offset_bounds-col_idcs-start c).In_default).shape.col_each)
@@ -80,4 +80,4 @@ overflow_sub-result c = omega (arith, within (goal.at.overflow_sub-result c).Els
 
 pub returns : goal.returns
 unfolding last_row unless row_found
-returns c = rw (formed (goal.at.returns c).In_default, ne_eqb _ _ c.if-nrows-eq0.false, last_long ((let a = c.args in matrix a.nrows a.ncols a.row_ptrs.now a.col_idcs.now a.values.now)) (lays (goal.at.returns c).In_default) (some_row (goal.at.returns c).Else-nrows-eq0), roomy (goal.at.returns c).In_default-room, last_cols ((let a = c.args in matrix a.nrows a.ncols a.row_ptrs.now a.col_idcs.now a.values.now)) (lays (goal.at.returns c).In_default) (some_row (goal.at.returns c).Else-nrows-eq0), last_values ((let a = c.args in matrix a.nrows a.ncols a.row_ptrs.now a.col_idcs.now a.values.now)) (lays (goal.at.returns c).In_default) (some_row (goal.at.returns c).Else-nrows-eq0), c.copy.ensures, c.copy-2.ensures)
+returns c = rw (formed (goal.at.returns c).In_default, ne_eqb _ _ c.if-nrows-eq0.false, last_long (let a = c.args in matrix a.nrows a.ncols a.row_ptrs.now a.col_idcs.now a.values.now) (lays (goal.at.returns c).In_default) (some_row (goal.at.returns c).Else-nrows-eq0), roomy (goal.at.returns c).In_default-room, last_cols (let a = c.args in matrix a.nrows a.ncols a.row_ptrs.now a.col_idcs.now a.values.now) (lays (goal.at.returns c).In_default) (some_row (goal.at.returns c).Else-nrows-eq0), last_values (let a = c.args in matrix a.nrows a.ncols a.row_ptrs.now a.col_idcs.now a.values.now) (lays (goal.at.returns c).In_default) (some_row (goal.at.returns c).Else-nrows-eq0), c.copy.ensures, c.copy-2.ensures)

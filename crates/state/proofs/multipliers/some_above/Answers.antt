@@ -9,7 +9,7 @@ pub loop-k-init : goal.loop-k-init
 loop-k-init c = clear_none _ _
 
 pub overflow_cast-cols : goal.overflow_cast-cols
-overflow_cast-cols c = omega (arith, c.shared_slice_known-1.given c.loop-k.k)
+overflow_cast-cols c = omega (arith, c.type_inv.cols c.loop-k.k)
 
 pub returns-then-cols-k : goal.returns-then-cols-k
 returns-then-cols-k c = clear_stop c.loop-k.invariant c.loop-k-test.true (le-leb _ _ c.if-cols-k.true)

@@ -28,10 +28,10 @@ pub bounds-cols-start : goal.bounds-cols-start
 bounds-cols-start c = let s = c.requires in omega (arith, row_in s.all.cut s.within, s.all.same)
 
 pub overflow_cast-result : goal.overflow_cast-result
-overflow_cast-result c = omega (arith, c.shared_slice_known-4-1.given (get_or c.args.ptrs.now c.args.row 0))
+overflow_cast-result c = omega (arith, c.type_inv.cols (get_or c.args.ptrs.now c.args.row 0))
 
 pub offset_bounds-pivots-head : goal.offset_bounds-pivots-head
-offset_bounds-pivots-head c = omega (arith, c.shared_slice_known-4-1.given (get_or c.args.ptrs.now c.args.row 0))
+offset_bounds-pivots-head c = omega (arith, c.type_inv.cols (get_or c.args.ptrs.now c.args.row 0))
 
 pub bounds-pivots-head : goal.bounds-pivots-head
 bounds-pivots-head c = let s = c.requires in

@@ -40,7 +40,7 @@ unfolding pivot_at upper mark
 loop-col-preserved-then-row c = (up_free _ _ _ _ _ c.loop-col.invariant.0 (omega (arith, c.loop-col-test.true, c.loop-col.invariant.0.left.long)) c.if-not-on.false c.if-row.true c.lesser-head.ensures c.next-col-then-row.ensures, front_next c.loop-col.invariant.1 c.next-col-then-row.ensures)
 
 pub overflow_cast-row : goal.overflow_cast-row
-overflow_cast-row c = omega (arith, c.shared_slice_known-in-loop-col-1.given c.loop-col.col)
+overflow_cast-row c = omega (arith, c.type_inv.pivots c.loop-col.col)
 
 pub subtract_row-requires : goal.subtract_row-requires
 unfolding mark

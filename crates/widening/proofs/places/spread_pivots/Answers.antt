@@ -10,7 +10,7 @@ pub loop-left-init : goal.loop-left-init
 loop-left-init c = spreading_none c.requires
 
 pub overflow_cast-positions : goal.overflow_cast-positions
-overflow_cast-positions c = omega (arith, c.shared_slice_known-1.given (c.loop-left.left - 1))
+overflow_cast-positions c = omega (arith, c.type_inv.positions (c.loop-left.left - 1))
 
 pub loop-left-preserved-then-positions-left : goal.loop-left-preserved-then-positions-left
 unfolding mark
