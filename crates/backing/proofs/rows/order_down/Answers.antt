@@ -38,9 +38,6 @@ pub overflow_add-found : goal.overflow_add-found
 unfolding mark
 overflow_add-found c = omega (arith, ordering_few c.requires (c.loop-left.invariant) (c.loop-left-test.true) (c.if-row.false))
 
-pub overflow_cast-back_ptrs : goal.overflow_cast-back_ptrs
-overflow_cast-back_ptrs c = omega (arith, c.type_inv.pivots (c.loop-left.left - 1))
-
 pub offset_bounds-back_ptrs-found : goal.offset_bounds-back_ptrs-found
 unfolding mark
 offset_bounds-back_ptrs-found c = omega (arith, ordering_few c.requires (c.loop-left.invariant) (c.loop-left-test.true) (c.if-row.false))
