@@ -33,13 +33,7 @@ pub fn said(
 }
 
 // Lends dense memory as the line gives it.
-fn lent(
-    nums: &[u32],
-    wides: &[usize],
-    dense: &mut [u32],
-    out: &mut Out,
-    fill: usize,
-) -> usize {
+fn lent(nums: &[u32], wides: &[usize], dense: &mut [u32], out: &mut Out, fill: usize) -> usize {
     let dense = lend(list(nums, wides, DENSE), dense);
     put_judged(nums, wides, dense, out, fill)
 }
