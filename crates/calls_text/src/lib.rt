@@ -66,13 +66,7 @@ fn said_of(
     Said::To(put_told(&text[0..n], short, shown, out, fill))
 }
 
-fn put_told(
-    text: &[u8],
-    short: u8,
-    shown: &mut [u8; SHOWN],
-    out: &mut Out,
-    fill: usize,
-) -> usize {
+fn put_told(text: &[u8], short: u8, shown: &mut [u8; SHOWN], out: &mut Out, fill: usize) -> usize {
     let told = told(text, short, shown);
     let kept = told.kept && kept_text(shown);
     let printed = told.printed;
