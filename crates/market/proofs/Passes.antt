@@ -1,4 +1,4 @@
--- The entries tested in one pass over their lines: what each turn comes to, and that the verdict is `marketTest`'s.
+-- The entries tested in one pass over their lines: what each turn comes to, and that the verdict is `market_test`'s.
 -- Assumes nothing.
 use mathlib.Core.Path.{◌≡◌, refl, sym, ap, ◌∙◌}
 use mathlib.Core.Bool.{Bool, true, false, not, ◌&&◌, ◌||◌, or-false, or_assoc}

@@ -1,4 +1,4 @@
--- The tests of the entries in one pass over their lines. That this is `marketTest` is proofs/Passes.antt's `pass-tests`.
+-- The tests of the entries in one pass over their lines. That this is `market_test` is proofs/Passes.antt's `pass_tests`.
 use Rattle.std.specs.Prelude.{Bool, false, not, ◌||◌, List, [], ◌∷◌, ℕ, leb, ltb, eqb}
 use Rattle.sparse.specs.Refusals.{refuse, lowest}
 use Rattle.sparse.specs.declared.Refusal.TheVariants.{Size, Value, Zero, Outside, Order}

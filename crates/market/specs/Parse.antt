@@ -1,4 +1,4 @@
--- The text read from its front. That this reads what the grammar accepts, and nothing else, is proofs/Exactly.antt's `reads-exactly`.
+-- The text read from its front. That this reads what the grammar accepts, and nothing else, is proofs/Exactly.antt's `reads_exactly`.
 use Rattle.std.specs.Prelude.{Bool, true, false, ◌&&◌, List, [], ◌∷◌, ℕ, zero, suc, ◌+◌, ◌-◌, ◌*◌, leb, ltb, eqb, length}
 use Rattle.market.specs.Grammar.{feed, space, percent, banner}
 use Rattle.triplets.specs.Triplets.{Triplet, triplet}
