@@ -1,6 +1,6 @@
 -- `last_at` meets its contract: nothing where the mark stands, else what the row holds.
 -- Assumes nothing.
-use mathlib.Core.Path.{sym, ◌∙◌}
+use mathlib.Core.Path.{◌≡◌, sym, ◌∙◌}
 use Prim.Native.Nat.{◌<◌}
 use native.Mathlib.Omega.{arith}
 use Rattle.sparse.specs.Matrix.{matrix, part, row}
@@ -21,7 +21,9 @@ lies c = row_within (let a = c.args in matrix a.nrows a.ncols a.row_ptrs.now a.c
 
 pub returns-then-row : goal.returns-then-row
 unfolding held mark
-returns-then-row c = sym (taken_none _ _ _ _ (sym c.source-row.ensures ∙ c.if-row.true))
+returns-then-row c =
+    let at_mark : c.source-row.result ≡ 4294967295 = omega (arith, c.if-row.true) in
+    sym (taken_none _ _ _ _ (sym c.source-row.ensures ∙ at_mark))
 
 pub bounds-row_ptrs-row : goal.bounds-row_ptrs-row
 bounds-row_ptrs-row c = omega (arith, lies (goal.at.bounds-row_ptrs-row c).Else-row)
@@ -61,4 +63,4 @@ pub returns : goal.returns
 unfolding row part mark
 returns c = c.last_in.ensures c.args.k
     ∙ sym (last_of_row (let a = c.args in matrix a.nrows a.ncols a.row_ptrs.now a.col_idcs.now a.values.now) _ c.requires.from.whole (is_row (goal.at.returns c).Else-row) c.args.k)
-    ∙ rw c.source-row.ensures (sym (taken_last c.args.order (let a = c.args in matrix a.nrows a.ncols a.row_ptrs.now a.col_idcs.now a.values.now) c.args.pivots.now c.args.k (λ q. c.if-row.false (c.source-row.ensures ∙ q))))
+    ∙ rw c.source-row.ensures (sym (taken_last c.args.order (let a = c.args in matrix a.nrows a.ncols a.row_ptrs.now a.col_idcs.now a.values.now) c.args.pivots.now c.args.k (λ q. let at_mark : c.source-row.result ≡ 4294967295 = c.source-row.ensures ∙ q in c.if-row.false (omega (arith, at_mark)))))
