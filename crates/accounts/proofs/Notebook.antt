@@ -1,5 +1,6 @@
 -- The notebook modulo 7 as accounts: N1 to N3, N1 to N5, N8 and no columns get a yes; with one number altered, a no.
 -- Assumes nothing.
+use Rattle.std.specs.Prelude.{Err, Ok}
 use mathlib.Core.Path.{◌≡◌, refl}
 use mathlib.Core.Bool.{Bool, true, false}
 use mathlib.Core.List.{List, [], ◌∷◌}
@@ -15,9 +16,8 @@ use Rattle.sparse.specs.Refusals.{refuse, ◌else◌, lowest, first_of}
 use Rattle.sparse.specs.Rows.{entries, rows_of, row_at}
 use Rattle.sparse.specs.Tests.{modulus_test, size_test, shape_test, column_test, columns_test, row_test, rows_test, value_test, values_test, rows_values_test, matrix_test, well_formed, clean}
 use Rattle.sparse.specs.declared.Refusal.TheVariants.{Shape, Mismatch, State}
-use Rattle.sparse.specs.declared.Tested.TheVariants.{Good, Refused}
 use Rattle.state.specs.Memory.{memory}
-use Rattle.state.specs.State.{is_refused, head_of, headless, misplaced, u_fault, crooked}
+use Rattle.state.specs.State.{head_of, headless, misplaced, u_fault, crooked}
 use Rattle.steps.specs.History.{at_once}
 use Rattle.steps.specs.Rows.{times}
 use Rattle.telling.specs.Answers.{none}
@@ -60,7 +60,7 @@ pub says_yes : judged (third (0 ∷ 2 ∷ none ∷ []) (1 ∷ 2 ∷ 1 ∷ []) (2
     ∷ judged (columnless (0 ∷ []))
     ∷ []
     ≡ true ∷ true ∷ true ∷ true ∷ []
-unfolding is_account account_fault row_fault used_in without accepted_in answer_at l_row l_count u_whole judge_fault product_fault answer_fault diagonal_fault diagonal astray unstorable at_once none times u_fault misplaced headless head_of is_refused clean well_formed matrix_test rows_values_test values_test value_test rows_test row_test columns_test column_test shape_test size_test modulus_test refuse ◌else◌ lowest first_of entries rows_of row_at cols_of values_of mark part row value_in value_at is_prime largest is_modulus any Σ table
+unfolding is_account account_fault row_fault used_in without accepted_in answer_at l_row l_count u_whole judge_fault product_fault answer_fault diagonal_fault diagonal astray unstorable at_once none times u_fault misplaced headless head_of clean well_formed matrix_test rows_values_test values_test value_test rows_test row_test columns_test column_test shape_test size_test modulus_test refuse ◌else◌ lowest first_of entries rows_of row_at cols_of values_of mark part row value_in value_at is_prime largest is_modulus any Σ table
 says_yes = refl
 
 -- the same accounts with one number altered: an answer, a value of U or L, a pivot; L's row sorted by column; an L row under step 1
@@ -76,7 +76,7 @@ pub says_no : judged (third (0 ∷ 1 ∷ none ∷ []) (1 ∷ 2 ∷ 1 ∷ []) (2 
     ∷ judged (columnless (0 ∷ 0 ∷ []))
     ∷ []
     ≡ false ∷ false ∷ false ∷ false ∷ false ∷ false ∷ false ∷ false ∷ false ∷ false ∷ []
-unfolding is_account account_fault row_fault used_in without accepted_in answer_at l_row l_count u_whole judge_fault product_fault answer_fault diagonal_fault diagonal astray unstorable at_once none times u_fault misplaced headless head_of is_refused clean well_formed matrix_test rows_values_test values_test value_test rows_test row_test columns_test column_test shape_test size_test modulus_test refuse ◌else◌ lowest first_of entries rows_of row_at cols_of values_of mark part row value_in value_at is_prime largest is_modulus any Σ table
+unfolding is_account account_fault row_fault used_in without accepted_in answer_at l_row l_count u_whole judge_fault product_fault answer_fault diagonal_fault diagonal astray unstorable at_once none times u_fault misplaced headless head_of clean well_formed matrix_test rows_values_test values_test value_test rows_test row_test columns_test column_test shape_test size_test modulus_test refuse ◌else◌ lowest first_of entries rows_of row_at cols_of values_of mark part row value_in value_at is_prime largest is_modulus any Σ table
 says_no = refl
 
 -- and the refusals: none; 3, an answer is missing; 11, dense memory or pivots are short; 13, U's values aren't as many as its columns, L has no pointer, or its pointers don't start at 0
@@ -88,6 +88,6 @@ pub refuses : account_test (0 ∷ 0 ∷ 0 ∷ []) (third (0 ∷ 2 ∷ none ∷ [
     ∷ account_test [] (columnless [])
     ∷ account_test [] (columnless (1 ∷ []))
     ∷ []
-    ≡ Good ∷ Refused Shape ∷ Refused Mismatch ∷ Refused Mismatch ∷ Refused State ∷ Refused State ∷ Refused State ∷ []
+    ≡ Ok tt ∷ Err Shape ∷ Err Mismatch ∷ Err Mismatch ∷ Err State ∷ Err State ∷ Err State ∷ []
 unfolding account_test slices_test memory_test answers_test broken crooked none clean well_formed matrix_test rows_values_test values_test value_test rows_test row_test columns_test column_test shape_test size_test modulus_test refuse ◌else◌ lowest first_of part row is_prime largest is_modulus any
 refuses = refl

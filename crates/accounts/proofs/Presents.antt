@@ -1,5 +1,6 @@
 -- An account that isn't refused: soundness holds of it, for edition 1 as for any rule that spares only combinations.
 -- Assumes nothing.
+use Rattle.std.specs.Prelude.{Ok}
 use mathlib.Core.Path.{◌≡◌}
 use mathlib.Core.Logic.{◌↔◌}
 use mathlib.Core.Bool.{true, not}
@@ -14,7 +15,6 @@ use Rattle.linear.specs.Combination.{Combination}
 use Rattle.sparse.specs.Rows.{row_at}
 use Rattle.sparse.specs.Tests.{modulus_test}
 use Rattle.sparse.specs.declared.Refusal.TheVariants.{Modulus, Mismatch}
-use Rattle.sparse.specs.declared.Tested.TheVariants.{Good}
 use Rattle.sparse.proofs.Firsts.{refuse_good, neither, lowest_good}
 use Rattle.steps.specs.History.{at_once, accepted, values_in}
 use Rattle.steps.specs.Rows.{value_of}
@@ -24,7 +24,7 @@ use Rattle.accounts.specs.Tests.{memory_test, account_test, Presented}
 use Rattle.accounts.proofs.Rules.{once_spares}
 use Rattle.accounts.proofs.Sounds.{sound}
 
-module _ (dense : List ℕ) (a : Account) (good : account_test dense a ≡ Good) where
+module _ (dense : List ℕ) (a : Account) (good : account_test dense a ≡ Ok tt) where
   -- its modulus is a prime
   pub presented_prime : Prime a.modulus
   unfolding account_test modulus_test

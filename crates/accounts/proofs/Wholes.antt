@@ -1,5 +1,6 @@
 -- The whole slices of U: where they and the pivots are a state, U's rows have distinct heads.
 -- Assumes nothing.
+use Rattle.std.specs.Prelude.{Ok, is_err}
 use mathlib.Core.Path.{◌≡◌, sym, ap, subst, ◌∙◌}
 use mathlib.Core.Bool.{false, ◌||◌}
 use mathlib.Core.List.{List}
@@ -13,12 +14,11 @@ use Rattle.lists.specs.Find.{any}
 use Rattle.linear.proofs.Heads.{Heads}
 use Rattle.sparse.specs.Matrix.{Matrix, matrix, value_at}
 use Rattle.sparse.specs.Tests.{modulus_test, clean, well_formed}
-use Rattle.sparse.specs.declared.Tested.TheVariants.{Good}
 use Rattle.sparse.proofs.Cuts.{Small, small, Laid, formed_laid}
 use Rattle.sparse.proofs.Firsts.{neither, lowest_good}
 use Rattle.state.specs.Asks.{Opened}
 use Rattle.state.specs.Memory.{at_most, places}
-use Rattle.state.specs.State.{is_refused, head_of, headless, misplaced, u_fault, u_lost, u_rows}
+use Rattle.state.specs.State.{head_of, headless, misplaced, u_fault, u_lost, u_rows}
 use Rattle.state.proofs.Faults.{not_refused}
 use Rattle.walk.specs.Asks.{PivotRow}
 use Rattle.walk.specs.Step.{upper}
@@ -45,17 +45,17 @@ module _ (p n : ℕ) (cols vals ptrs pivots : List ℕ) (wide : n ≤ length piv
   abbrev u : Matrix
   u = matrix (length ptrs - 1) n ptrs cols vals
 
-  is_clean : clean 1048576 p u ≡ Good
+  is_clean : clean 1048576 p u ≡ Ok tt
   unfolding u_fault
   is_clean =
       not_refused (clean 1048576 p u)
-      (neither (is_refused (clean 1048576 p u)) (any rank (headless u pivots)) (neither (is_refused (clean 1048576 p u) || any rank (headless u pivots)) (any n (misplaced u pivots)) sound).0).0
+      (neither (is_err (clean 1048576 p u)) (any rank (headless u pivots)) (neither (is_err (clean 1048576 p u) || any rank (headless u pivots)) (any n (misplaced u pivots)) sound).0).0
 
-  formed : well_formed 1048576 p u ≡ Good
+  formed : well_formed 1048576 p u ≡ Ok tt
   unfolding clean
   formed = (lowest_good _ _ is_clean).0
 
-  pub whole_modulus : modulus_test p ≡ Good
+  pub whole_modulus : modulus_test p ≡ Ok tt
   unfolding well_formed
   whole_modulus = (lowest_good _ _ formed).0
 

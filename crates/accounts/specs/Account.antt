@@ -1,13 +1,12 @@
 -- The account check: yes exactly if rows, their answers, U, L and pivots fit together as document 01 says.
-use Rattle.std.specs.Prelude.{ℕ, zero, suc, ◌+◌, ◌-◌, Bool, not, ◌||◌, cond, List, leb, eqb, length, get_or}
+use Rattle.walk.specs.Step.{Answer}
+use Rattle.std.specs.Prelude.{ℕ, zero, suc, ◌+◌, ◌-◌, Bool, not, ◌||◌, cond, List, leb, eqb, length, get_or, None, Some}
 use Rattle.lists.specs.Find.{any}
 use Rattle.lists.specs.Table.{table}
 use Rattle.sparse.specs.Matrix.{Matrix, matrix, row}
 use Rattle.sparse.specs.Rows.{Entry, entries, row_at}
 use Rattle.state.specs.Memory.{Memory}
 use Rattle.state.specs.State.{u_fault}
-use Rattle.walk.specs.declared.Answer.{Answer}
-use Rattle.walk.specs.declared.Answer.TheVariants.{Accepted, None}
 use Rattle.steps.specs.History.{Told, told}
 use Rattle.telling.specs.Answers.{none}
 use Rattle.accounts.specs.Judgement.{judge_fault}
@@ -77,7 +76,7 @@ is_account rule a = not (account_fault rule a)
 
 -- the answer that a number stands for
 unfoldable pub answer_of : ℕ → Answer
-answer_of v = cond (eqb v none) None (Accepted v)
+answer_of v = cond (eqb v none) None (Some v)
 
 -- the first i rows and what they were answered
 unfoldable pub told_in : Account → ℕ → List Told

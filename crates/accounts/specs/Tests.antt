@@ -1,10 +1,8 @@
 -- When an account is judged at all: the numbers that refuse it.
-use Rattle.std.specs.Prelude.{◌≡◌, ℕ, ◌-◌, ◌≤◌, Bool, not, ◌||◌, List, [], ◌∷◌, ltb, eqb, length}
-use Rattle.sparse.specs.Refusals.{refuse, lowest}
+use Rattle.std.specs.Prelude.{◌≡◌, ℕ, ◌-◌, ◌≤◌, Bool, not, ◌||◌, List, [], ◌∷◌, ltb, eqb, length, Ok}
+use Rattle.sparse.specs.Refusals.{refuse, lowest, Tested}
 use Rattle.sparse.specs.Tests.{modulus_test, size_test, clean}
 use Rattle.sparse.specs.declared.Refusal.TheVariants.{Shape, Mismatch, State}
-use Rattle.sparse.specs.declared.Tested.{Tested}
-use Rattle.sparse.specs.declared.Tested.TheVariants.{Good}
 use Rattle.state.specs.State.{crooked}
 use Rattle.accounts.specs.Account.{Account}
 
@@ -41,5 +39,5 @@ account_test dense a =
 
 -- what soundness asks of an account: clean rows, and a place in the pivot table for each column
 pub record Presented (a : Account) : Type 0 where
-  pub rows : clean 65536 a.modulus a.rows ≡ Good
+  pub rows : clean 65536 a.modulus a.rows ≡ Ok tt
   pub table : a.rows.ncols ≤ length a.memory.pivots

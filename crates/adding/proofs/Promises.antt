@@ -8,8 +8,7 @@ use Rattle.lists.proofs.Only.{only}
 use Rattle.sparse.specs.Lent.{Outcome}
 use Rattle.state.specs.declared.Counts.{Counts}
 use Rattle.stepping.specs.Take.{Lists}
-use Rattle.adding.specs.AddRow.{add_row}
-use Rattle.adding.specs.declared.Added.{Added}
+use Rattle.adding.specs.AddRow.{add_row, Added}
 
 pub add_row_only : (c : Counts) (cols vals : List ℕ) (o : Lists) {s t : Outcome Added Lists} → s ≡ add_row false c cols vals o → t ≡ add_row false c cols vals o → s ≡ t
 add_row_only c cols vals o = only

@@ -1,5 +1,6 @@
 -- A row that is added: what its tests give, and each outcome.
 -- Assumes nothing.
+use Rattle.std.specs.Prelude.{Err, Ok}
 use mathlib.Core.Path.{◌≡◌, sym, ap, ◌∙◌}
 use mathlib.Core.Bool.{Bool}
 use mathlib.Core.List.{List, ◌++◌}
@@ -9,12 +10,10 @@ use lib.Dec.{ltb}
 use lib.ListN.{length, take, drop}
 use Rattle.lists.specs.Table.{table}
 use Rattle.sparse.specs.Lent.{Outcome, outcome, unless}
-use Rattle.sparse.specs.Refusals.{lowest}
+use Rattle.sparse.specs.Refusals.{lowest, Tested}
 use Rattle.sparse.specs.Rows.{entries}
 use Rattle.sparse.specs.declared.Refusal.{Refusal}
 use Rattle.sparse.specs.declared.Refusal.TheVariants.{Shape, Mismatch}
-use Rattle.sparse.specs.declared.Tested.{Tested}
-use Rattle.sparse.specs.declared.Tested.TheVariants.{Good, Refused}
 use Rattle.sparse.proofs.Firsts.{neither, refuse_good, lowest_good}
 use Rattle.meaning.proofs.Values.{columns_climb}
 use Rattle.state.specs.Memory.{Memory}
@@ -28,15 +27,14 @@ use Rattle.stepping.proofs.Offers.{offered}
 use Rattle.adding.specs.AddRow.{answered_with, take_row, add_row}
 use Rattle.adding.specs.Asks.{Takeable}
 use Rattle.adding.specs.RowTests.{row_tests, short_test, add_row_test}
-use Rattle.adding.specs.declared.Added.TheVariants.{Answered, Refused as NotAdded}
 use Rattle.adding.proofs.RowsTested.{tested_opened}
 
 -- the same number of columns and values
-pub tested_same : (p n : ℕ) (cols vals : List ℕ) → lowest (row_tests p n cols vals) ≡ Good → length cols ≡ length vals
+pub tested_same : (p n : ℕ) (cols vals : List ℕ) → lowest (row_tests p n cols vals) ≡ Ok tt → length cols ≡ length vals
 unfolding row_tests
 tested_same p n cols vals e = eqb-true (length cols) (length vals) (not-false _ (refuse_good _ Shape (lowest_good _ _ (lowest_good _ _ (lowest_good _ _ e).1).1).0))
 
-tested_offered : (c : Counts) (cols vals : List ℕ) → lowest (row_tests c.modulus c.ncols cols vals) ≡ Good → Offered c cols vals
+tested_offered : (c : Counts) (cols vals : List ℕ) → lowest (row_tests c.modulus c.ncols cols vals) ≡ Ok tt → Offered c cols vals
 unfolding row_tests
 tested_offered c cols vals e =
     let columns = lowest_good _ _ (lowest_good _ _ (lowest_good _ _ (lowest_good _ _ e).1).1).1 in
@@ -45,12 +43,12 @@ tested_offered c cols vals e =
 
 module _ (c : Counts) (cols vals : List ℕ) (o : Lists) where
   -- the tests, part by part
-  module _ (e : add_row_test c cols vals o.dense o.memory ≡ Good) where
+  module _ (e : add_row_test c cols vals o.dense o.memory ≡ Ok tt) where
     pub add_same : length cols ≡ length vals
     unfolding add_row_test
     add_same = tested_same c.modulus c.ncols cols vals (lowest_good _ _ e).0
 
-    pub add_takeable : room_asked c (entries cols vals) o.memory ≡ Good → Takeable c cols vals o
+    pub add_takeable : room_asked c (entries cols vals) o.memory ≡ Ok tt → Takeable c cols vals o
     unfolding add_row_test short_test
     add_takeable room =
         let row = lowest_good _ _ e in
@@ -64,16 +62,16 @@ module _ (c : Counts) (cols vals : List ℕ) (o : Lists) where
 
   -- the outcomes
   module _ (on : Bool) {s : Tested} (tested : s ≡ add_row_test c cols vals o.dense o.memory) where
-    pub add_refused : {why : Refusal} → s ≡ Refused why → outcome (NotAdded why) o ≡ add_row on c cols vals o
+    pub add_refused : {why : Refusal} → s ≡ Err why → outcome (Err why) o ≡ add_row on c cols vals o
     unfolding add_row take_row unless
     add_refused e = rw (sym tested ∙ e)
 
-    module _ (good : s ≡ Good) {r : Tested} (asked : r ≡ room_asked c (entries cols vals) o.memory) where
-      pub add_no_room : {why : Refusal} → r ≡ Refused why → outcome (NotAdded why) o ≡ add_row on c cols vals o
+    module _ (good : s ≡ Ok tt) {r : Tested} (asked : r ≡ room_asked c (entries cols vals) o.memory) where
+      pub add_no_room : {why : Refusal} → r ≡ Err why → outcome (Err why) o ≡ add_row on c cols vals o
       unfolding add_row take_row unless
       add_no_room e = rw (sym tested ∙ good, sym asked ∙ e)
 
-      pub add_answered : r ≡ Good → {x : Stepped} {after : Lists} → outcome x after ≡ step_row on c (entries cols vals) o → outcome (Answered x) after ≡ add_row on c cols vals o
+      pub add_answered : r ≡ Ok tt → {x : Stepped} {after : Lists} → outcome x after ≡ step_row on c (entries cols vals) o → outcome (Ok x) after ≡ add_row on c cols vals o
       unfolding add_row take_row unless answered_with
       add_answered e took = rw (sym tested ∙ good, sym asked ∙ e) (ap answered_with took)
 

@@ -1,7 +1,6 @@
 -- What taking a row asks for.
-use Rattle.std.specs.Prelude.{◌≡◌, List, ℕ, ◌≤◌, length}
+use Rattle.std.specs.Prelude.{◌≡◌, List, ℕ, ◌≤◌, length, Ok}
 use Rattle.sparse.specs.Rows.{entries}
-use Rattle.sparse.specs.declared.Tested.TheVariants.{Good}
 use Rattle.state.specs.declared.Counts.{Counts}
 use Rattle.stepping.specs.Asks.{Stands, Offered}
 use Rattle.stepping.specs.Take.{Lists, room_asked}
@@ -10,5 +9,5 @@ use Rattle.stepping.specs.Take.{Lists, room_asked}
 pub record Takeable (c : Counts) (cols vals : List ℕ) (o : Lists) : Type 0 where
   pub stands : Stands c o
   pub row : Offered c cols vals
-  pub room : room_asked c (entries cols vals) o.memory ≡ Good
+  pub room : room_asked c (entries cols vals) o.memory ≡ Ok tt
   pub long : c.ncols ≤ length o.dense

@@ -1,9 +1,8 @@
 -- When a row can be taken: the numbers before step 1, against the record of counts.
 use Rattle.std.specs.Prelude.{ℕ, not, ◌||◌, List, [], ◌∷◌, ltb, eqb, length}
-use Rattle.sparse.specs.Refusals.{refuse, lowest}
+use Rattle.sparse.specs.Refusals.{refuse, lowest, Tested}
 use Rattle.sparse.specs.Tests.{modulus_test, size_test, columns_test, values_test}
 use Rattle.sparse.specs.declared.Refusal.TheVariants.{Shape, Mismatch}
-use Rattle.sparse.specs.declared.Tested.{Tested}
 use Rattle.sparse.specs.declared.inside.Clause.TheVariants.{Residue, Nonzero}
 use Rattle.state.specs.Memory.{Memory}
 use Rattle.state.specs.State.{state_test}

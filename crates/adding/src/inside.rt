@@ -5,7 +5,7 @@ ghost use Rattle.state.specs.Memory.{memory};
 ghost use Rattle.adding.specs.RowTests.{row_tests, short_test, add_row_test};
 
 use sparse::inside::{Clause, columns_test, modulus_test, size_test, values_test};
-use sparse::{MAX_ENTRIES, Refusal, Tested};
+use sparse::{MAX_ENTRIES, Refusal};
 use state::Counts;
 use state::inside::state_test;
 
@@ -22,57 +22,39 @@ pub fn add_row_test(
     l_vals: &[u32],
     l_ptrs: &[usize],
     pivots: &[u32],
-) -> Tested
+) -> Result<(), Refusal>
     ensures { result ≡ add_row_test counts cols.now vals.now dense.now (memory u_cols.now u_vals.now u_ptrs.now l_cols.now l_vals.now l_ptrs.now pivots.now) }
 {
-    let row = row_test(counts.modulus, counts.ncols, cols, vals);
-    if let Tested::Refused(why) = row {
-        return Tested::Refused(why);
-    }
-    let short = short_test(counts.ncols, dense, pivots);
-    if let Tested::Refused(why) = short {
-        return Tested::Refused(why);
-    }
+    row_test(counts.modulus, counts.ncols, cols, vals)?;
+    short_test(counts.ncols, dense, pivots)?;
     state_test(
         counts, u_cols, u_vals, u_ptrs, l_cols, l_vals, l_ptrs, pivots,
     )
 }
 
 // 1, 2, 3, 5, 6 and 7 of a row that a reducer takes.
-pub fn row_test(p: u32, ncols: u32, cols: &[u32], vals: &[u32]) -> Tested
+pub fn row_test(p: u32, ncols: u32, cols: &[u32], vals: &[u32]) -> Result<(), Refusal>
     ensures { result ≡ lowest (row_tests p ncols cols.now vals.now) }
 {
-    let modulus = modulus_test(p);
-    if let Tested::Refused(why) = modulus {
-        return Tested::Refused(why);
-    }
-    let size = size_test(MAX_ENTRIES, 1, ncols, vals.len());
-    if let Tested::Refused(why) = size {
-        return Tested::Refused(why);
-    }
+    modulus_test(p)?;
+    size_test(MAX_ENTRIES, 1, ncols, vals.len())?;
     if cols.len() != vals.len() {
-        return Tested::Refused(Refusal::Shape);
+        return Err(Refusal::Shape);
     }
-    let columns = columns_test(ncols, cols);
-    if let Tested::Refused(why) = columns {
-        return Tested::Refused(why);
-    }
-    let residues = values_test(Clause::Residue, p, vals);
-    if let Tested::Refused(why) = residues {
-        return Tested::Refused(why);
-    }
+    columns_test(ncols, cols)?;
+    values_test(Clause::Residue, p, vals)?;
     values_test(Clause::Nonzero, p, vals)
 }
 
 // 11 of dense memory and the pivot table.
-pub fn short_test(ncols: u32, dense: &[u32], pivots: &[u32]) -> Tested
+pub fn short_test(ncols: u32, dense: &[u32], pivots: &[u32]) -> Result<(), Refusal>
     ensures { result ≡ short_test ncols dense.now pivots.now }
 {
     if dense.len() < ncols as usize {
-        return Tested::Refused(Refusal::Mismatch);
+        return Err(Refusal::Mismatch);
     }
     if pivots.len() < ncols as usize {
-        return Tested::Refused(Refusal::Mismatch);
+        return Err(Refusal::Mismatch);
     }
-    Tested::Good
+    Ok(())
 }

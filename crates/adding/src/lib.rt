@@ -8,12 +8,3 @@ pub mod inside;
 mod rows;
 
 pub use rows::{add_row, add_row_with_back_subs};
-use sparse::Refusal;
-use stepping::Stepped;
-
-// What a call that adds a row answers: the row's answer and the counts afterwards, or a refusal.
-#[derive(Clone, Copy)]
-pub enum Added {
-    Answered(Stepped),
-    Refused(Refusal),
-}

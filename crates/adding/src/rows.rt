@@ -7,9 +7,8 @@ ghost use Rattle.stepping.specs.Take.{lists, step_row};
 ghost use Rattle.adding.specs.AddRow.{add_row};
 ghost use Rattle.adding.specs.Asks.{Takeable};
 
-use crate::Added;
 use crate::inside::add_row_test;
-use sparse::Tested;
+use sparse::Refusal;
 use state::Counts;
 use stepping::Stepped;
 use stepping::rows::{room_asked, step_row};
@@ -29,7 +28,7 @@ pub fn add_row(
     l_vals: &mut [u32],
     l_ptrs: &mut [usize],
     pivots: &mut [u32],
-) -> Added
+) -> Result<Stepped, Refusal>
     ensures { outcome result (lists (memory u_cols.new u_vals.new u_ptrs.new l_cols.new l_vals.new l_ptrs.new pivots.new) dense.new) ≡ add_row false counts cols.now vals.now (lists (memory u_cols.old u_vals.old u_ptrs.old l_cols.old l_vals.old l_ptrs.old pivots.old) dense.old) }
 {
     add(
@@ -50,7 +49,7 @@ pub fn add_row_with_back_subs(
     l_vals: &mut [u32],
     l_ptrs: &mut [usize],
     pivots: &mut [u32],
-) -> Added
+) -> Result<Stepped, Refusal>
     ensures { outcome result (lists (memory u_cols.new u_vals.new u_ptrs.new l_cols.new l_vals.new l_ptrs.new pivots.new) dense.new) ≡ add_row true counts cols.now vals.now (lists (memory u_cols.old u_vals.old u_ptrs.old l_cols.old l_vals.old l_ptrs.old pivots.old) dense.old) }
 {
     add(
@@ -71,22 +70,16 @@ fn add(
     l_vals: &mut [u32],
     l_ptrs: &mut [usize],
     pivots: &mut [u32],
-) -> Added
+) -> Result<Stepped, Refusal>
     ensures { outcome result (lists (memory u_cols.new u_vals.new u_ptrs.new l_cols.new l_vals.new l_ptrs.new pivots.new) dense.new) ≡ add_row on counts cols.now vals.now (lists (memory u_cols.old u_vals.old u_ptrs.old l_cols.old l_vals.old l_ptrs.old pivots.old) dense.old) }
 {
-    let tested = add_row_test(
+    add_row_test(
         counts, cols, vals, dense, u_cols, u_vals, u_ptrs, l_cols, l_vals, l_ptrs, pivots,
-    );
-    if let Tested::Refused(why) = tested {
-        return Added::Refused(why);
-    }
-    let room = room_asked(
+    )?;
+    room_asked(
         counts, cols, vals, u_cols, u_vals, u_ptrs, l_cols, l_vals, l_ptrs, pivots,
-    );
-    if let Tested::Refused(why) = room {
-        return Added::Refused(why);
-    }
-    Added::Answered(take(
+    )?;
+    Ok(take(
         on, counts, cols, vals, dense, u_cols, u_vals, u_ptrs, l_cols, l_vals, l_ptrs, pivots,
     ))
 }

@@ -2,9 +2,8 @@
 use Rattle.std.specs.Prelude.{ℕ, Bool, List, [], ◌∷◌}
 use Rattle.sparse.specs.Lent.{Outcome, unless}
 use Rattle.sparse.specs.Matrix.{Matrix}
-use Rattle.sparse.specs.Refusals.{lowest}
+use Rattle.sparse.specs.Refusals.{lowest, Tested}
 use Rattle.sparse.specs.Tests.{clean}
-use Rattle.sparse.specs.declared.Tested.{Tested}
 use Rattle.state.specs.Fresh.{start_test}
 use Rattle.state.specs.declared.Mode.{Mode}
 use Rattle.telling.specs.declared.Reduced.{Reduced}

@@ -8,7 +8,7 @@ ghost use Rattle.anew.specs.Calls.{from_matrix_test, from_matrix};
 
 use batches::rows::take_anew;
 use batches::tests::short_test;
-use sparse::{Tested, try_from_csr_clean};
+use sparse::{Refusal, try_from_csr_clean};
 use state::Mode;
 use state::start::start_test;
 use telling::Reduced;
@@ -136,17 +136,11 @@ fn from_matrix_test(
     u_ptrs: &[usize],
     l_ptrs: &[usize],
     pivots: &[u32],
-) -> Tested
+) -> Result<(), Refusal>
     ensures { result ≡ from_matrix_test p mode (matrix nrows ncols row_ptrs.now col_idcs.now values.now) dense.now answers.now u_ptrs.now l_ptrs.now pivots.now }
 {
-    let clean = try_from_csr_clean(p, nrows, ncols, row_ptrs, col_idcs, values);
-    if let Tested::Refused(why) = clean {
-        return Tested::Refused(why);
-    }
-    let short = short_test(nrows, ncols, dense, answers, pivots);
-    if let Tested::Refused(why) = short {
-        return Tested::Refused(why);
-    }
+    try_from_csr_clean(p, nrows, ncols, row_ptrs, col_idcs, values)?;
+    short_test(nrows, ncols, dense, answers, pivots)?;
     start_test(mode, u_ptrs, l_ptrs)
 }
 
@@ -175,7 +169,7 @@ fn from_rows(
     let tested = from_matrix_test(
         p, mode, nrows, ncols, row_ptrs, col_idcs, values, dense, answers, u_ptrs, l_ptrs, pivots,
     );
-    if let Tested::Refused(why) = tested {
+    if let Err(why) = tested {
         return Reduced::Refused(why);
     }
     take_anew(

@@ -1,5 +1,6 @@
 -- One row cleared: what each call on the way asks for, and what is seen at the end.
 -- Assumes nothing.
+use Rattle.std.specs.Prelude.{None}
 use mathlib.Core.Path.{◌≡◌, refl, ap, ◌∙◌}
 use mathlib.Core.Bool.{true}
 use mathlib.Core.List.{List, []}
@@ -15,7 +16,6 @@ use Rattle.walk.specs.Dense.{spread, wiped}
 use Rattle.walk.specs.Left.{rest_of, limit_of, LeftFrom}
 use Rattle.walk.specs.Step.{way, climb, divided}
 use Rattle.walk.specs.Step as S
-use Rattle.walk.specs.declared.Answer.TheVariants.{None}
 use Rattle.steps.proofs.Steps.{prime_inverts, step_added}
 use Rattle.taking.specs.Asks.{StoresU}
 use Rattle.taking.specs.Rows.{Shown, shown, walked_to, storing}

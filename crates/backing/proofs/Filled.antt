@@ -70,9 +70,6 @@ module _ {c : Counts} {m : Memory} {l : Lent} {dense₀ : List ℕ} (b : Builds 
     pub long_pivots : length pivots ≡ length m.pivots
     long_pivots = ap length f.heads ∙ length-onto (finished p n rows e).pivots m.pivots (omega (arith, finished_long p n rows e, b.opened.table))
 
-    pub long_dense : length dense ≡ length dense₀
-    long_dense = ap length f.zero ∙ ap length (sym b.zero)
-
     -- all rows
     pub filling_all : k ≤ e → outcome fill (backing pivots (lent ptrs cols vals) dense) ≡ outcome (length (flatten (back_rows c m))) (backed c m l dense₀)
     unfolding backed back_pivots offset

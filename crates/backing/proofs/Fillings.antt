@@ -1,5 +1,6 @@
 -- The second U while it is built: its rows so far in memory are those of back substitution as values, and the next is cleared.
 -- Assumes nothing.
+use Rattle.std.specs.Prelude.{Some}
 use mathlib.Core.Path.{◌≡◌, refl, sym, ap, subst, ◌∙◌}
 use mathlib.Core.Bool.{true, true≢false}
 use mathlib.Core.List.{List, [], ◌∷◌, ◌++◌, map}
@@ -25,7 +26,6 @@ use Rattle.state.specs.declared.Counts.{Counts}
 use Rattle.walk.specs.Asks.{PivotRow, Pivoted}
 use Rattle.walk.specs.Step.{pivot_at, Taken, step}
 use Rattle.walk.specs.Step as S
-use Rattle.walk.specs.declared.Answer.TheVariants.{Accepted}
 use Rattle.steps.specs.Added.{Added}
 use Rattle.steps.specs.History.{answered, grows, placed, extended}
 use Rattle.steps.specs.Rows.{value_of, CleanRow}
@@ -129,10 +129,10 @@ module _ {c : Counts} {m : Memory} {l : Lent} {dense₀ : List ℕ} (b : Builds 
     }
 
     -- it is accepted at the next pivot column
-    accepted : (answered true p n e u (rows e)).answer ≡ Accepted (h e)
+    accepted : (answered true p n e u (rows e)).answer ≡ Some (h e)
     accepted = built_accepted (inv b) (falls b) low f.built
 
-    was_accepted : (answered true p n e v (rows e)).answer ≡ Accepted (h e)
+    was_accepted : (answered true p n e v (rows e)).answer ≡ Some (h e)
     was_accepted = built_accepted (inv b) (falls b) low (was b e)
 
     stepped : answered true p n e u (rows e) ≡ step true p n e u (rows e)
@@ -149,7 +149,7 @@ module _ {c : Counts} {m : Memory} {l : Lent} {dense₀ : List ℕ} (b : Builds 
     unfolding back_rows back_row
     es_here = ap (λ (t : Taken). t.u) (sym stepped ∙ same) ∙ sym (get_or-table k (back_row c m) e [] low)
 
-    step_accepted : (step true p n e u (rows e)).answer ≡ Accepted (h e)
+    step_accepted : (step true p n e u (rows e)).answer ≡ Some (h e)
     step_accepted = ap (λ (t : Taken). t.answer) (sym stepped) ∙ accepted
 
     added : Added p n e u h (h e) (step true p n e u (rows e))
@@ -261,7 +261,7 @@ module _ {c : Counts} {m : Memory} {l : Lent} {dense₀ : List ℕ} (b : Builds 
 
     built_next : Built p n rows (suc e) (S.upper after.cols after.vals after.ptrs after.pivots)
     built_next =
-        built_more e u f.built (Accepted (h e)) (S.upper after.cols after.vals after.ptrs after.pivots)
+        built_more e u f.built (Some (h e)) (S.upper after.cols after.vals after.ptrs after.pivots)
         (grows (h e) (S.upper after.cols after.vals after.ptrs after.pivots) accepted (rw stepped grown))
 
     values_next : (i : ℕ) → i < suc e → (j : ℕ) → j < n → (S.upper after.cols after.vals after.ptrs after.pivots).value i j ≡ (finished p n rows (suc e)).value i j

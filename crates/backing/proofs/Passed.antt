@@ -1,5 +1,6 @@
 -- The tests of back substitution: which decides, and what they leave where they find nothing.
 -- Assumes nothing.
+use Rattle.std.specs.Prelude.{Err, Ok}
 use mathlib.Core.Path.{◌≡◌, refl}
 use mathlib.Core.Bool.{false, ◌||◌}
 use mathlib.Core.List.{List, [], ◌∷◌}
@@ -9,12 +10,10 @@ use borrow.Author.Tests.{ltb-false}
 use lib.Dec.{ltb}
 use lib.ListN.{length, take}
 use Rattle.sparse.specs.Lent.{Lent, room_test}
-use Rattle.sparse.specs.Refusals.{refuse, lowest}
+use Rattle.sparse.specs.Refusals.{refuse, lowest, Tested}
 use Rattle.sparse.specs.Tests.{modulus_test, size_test}
 use Rattle.sparse.specs.declared.Refusal.{Refusal}
 use Rattle.sparse.specs.declared.Refusal.TheVariants.{Mismatch}
-use Rattle.sparse.specs.declared.Tested.{Tested}
-use Rattle.sparse.specs.declared.Tested.TheVariants.{Good, Refused}
 use Rattle.sparse.proofs.Cuts.{small}
 use Rattle.sparse.proofs.Firsts.{refuse_good, neither, lowest_good}
 use Rattle.state.specs.Asks.{Opened}
@@ -32,7 +31,7 @@ use Rattle.backing.specs.Back.{back_test}
 use Rattle.backing.proofs.Most.{entries_most}
 
 -- 1, 2 and 11 find nothing
-module _ (p n d : ℕ) (pivots : List ℕ) (e : open_test p n d (length pivots) ≡ Good) where
+module _ (p n d : ℕ) (pivots : List ℕ) (e : open_test p n d (length pivots) ≡ Ok tt) where
   long_both : (ltb d n || ltb (length pivots) n) ≡ false
   unfolding open_test
   long_both = refuse_good _ Mismatch (lowest_good _ _ (lowest_good _ _ (lowest_good _ _ e).1).1).0
@@ -56,12 +55,12 @@ module _ (dense : List ℕ) (c : Counts) (m : Memory) (l : Lent) where
   second = state_test c m ∷ room_test c.rank (c.rank * (c.ncols - c.rank + 1)) l ∷ []
 
   -- 1, 2 or 11 decides,
-  pub open_refused : {s : Tested} {why : Refusal} → s ≡ open_test c.modulus c.ncols (length dense) (length m.pivots) → s ≡ Refused why → Refused why ≡ back_test dense c m l
+  pub open_refused : {s : Tested} {why : Refusal} → s ≡ open_test c.modulus c.ncols (length dense) (length m.pivots) → s ≡ Err why → Err why ≡ back_test dense c m l
   unfolding back_test open_test
   open_refused q e = first_stop first second q e
 
   -- or 13 and 14 do
-  pub open_passed : {x : Tested} → open_test c.modulus c.ncols (length dense) (length m.pivots) ≡ Good → x ≡ lowest (state_test c m ∷ room_test c.rank (c.rank * (c.ncols - c.rank + 1)) l ∷ []) → x ≡ back_test dense c m l
+  pub open_passed : {x : Tested} → open_test c.modulus c.ncols (length dense) (length m.pivots) ≡ Ok tt → x ≡ lowest (state_test c m ∷ room_test c.rank (c.rank * (c.ncols - c.rank + 1)) l ∷ []) → x ≡ back_test dense c m l
   unfolding back_test open_test
   open_passed q e = first_next first second refl q e
 
@@ -69,9 +68,9 @@ module _ (dense : List ℕ) (c : Counts) (m : Memory) (l : Lent) where
   pub record Passed : Type 0 where
     pub stands : Stands c (lists m [])
     pub long : c.ncols ≤ length dense
-    pub room : room_test c.rank (c.rank * (c.ncols - c.rank + 1)) l ≡ Good
+    pub room : room_test c.rank (c.rank * (c.ncols - c.rank + 1)) l ≡ Ok tt
 
-  pub passed : back_test dense c m l ≡ Good → Passed
+  pub passed : back_test dense c m l ≡ Ok tt → Passed
   unfolding back_test open_test
   passed e =
       let both = both_good first second e in
@@ -88,7 +87,7 @@ pub record Ranked (c : Counts) : Type 0 where
   pub few : c.ncols ≤ 1024
   pub product : c.rank * (c.ncols - c.rank + 1) ≤ 1048576
 
-pub ranked : (d : ℕ) (c : Counts) (m : Memory) → open_test c.modulus c.ncols d (length m.pivots) ≡ Good → state_test c m ≡ Good → Ranked c
+pub ranked : (d : ℕ) (c : Counts) (m : Memory) → open_test c.modulus c.ncols d (length m.pivots) ≡ Ok tt → state_test c m ≡ Ok tt → Ranked c
 ranked d c m e t =
     let o : Opened c.modulus c.ncols m.pivots = opens c.modulus c.ncols d m.pivots e in
     let low : c.rank ≤ c.ncols = rank_low c (lists m []) (record { opened = o; state = t }) in

@@ -1,19 +1,19 @@
 -- What back substitution makes: a state whose rows are reduced, span what U's rows span, and are the only such rows, one for
 -- each pivot from the highest column down.
 -- Assumes nothing.
+use Rattle.std.specs.Prelude.{Err, Ok}
 use mathlib.Core.Path.{◌≡◌, refl, sym, ap, subst, ◌∙◌}
 use mathlib.Core.Bool.{false}
 use mathlib.Core.List.{List, [], flatten}
 use Prim.Native.Nat.{ℕ, ◌<◌}
 use native.Mathlib.Omega.{arith}
 use lib.ListN.{length}
+use Rattle.sparse.specs.Refusals.{Tested}
 use Rattle.lists.specs.Onto.{◌onto◌}
 use Rattle.lists.specs.Table.{table}
 use Rattle.sparse.specs.Lent.{Lent, Outcome, outcome, unless}
 use Rattle.sparse.specs.Put.{put_rows}
 use Rattle.sparse.specs.Rows.{row_at}
-use Rattle.sparse.specs.declared.Tested.{Tested}
-use Rattle.sparse.specs.declared.Tested.TheVariants.{Good, Refused}
 use Rattle.state.specs.Memory.{Memory}
 use Rattle.state.specs.State.{u_lost, l_fault, u_of}
 use Rattle.state.specs.declared.Counts.{Counts}
@@ -33,9 +33,7 @@ use Rattle.reduced.specs.Reduced.{Reduced, SameSpan, Among}
 use Rattle.reduced.proofs.Backs.{back_finished, back_spans, back_only}
 use Rattle.reduced.proofs.Uniques.{reduced_count, span_back, span_join}
 use Rattle.backing.specs.Asks.{Builds}
-use Rattle.backing.specs.Back.{down_row, back_rows, back_pivots, back_test, back_counts, Backing, backing, reducer, backed, back_substitute}
-use Rattle.backing.specs.declared.Backed.{Backed}
-use Rattle.backing.specs.declared.Backed.TheVariants.{Made, Refused as Unmade}
+use Rattle.backing.specs.Back.{down_row, back_rows, back_pivots, back_test, back_counts, Backing, backing, reducer, backed, back_substitute, Backed}
 use Rattle.backing.proofs.Downs.{heads, echelon, inverts, clean, means, falling}
 use Rattle.backing.proofs.Filled.{long_cols, long_vals, long_ptrs, long_pivots, filling_few, filling_last}
 use Rattle.backing.proofs.Fillings.{Filling}
@@ -43,7 +41,7 @@ use Rattle.backing.proofs.Fits.{rows_many, rank_few, second_room}
 use Rattle.backing.proofs.Passed.{passed}
 
 -- what the tests leave
-module _ (c : Counts) (m : Memory) (l : Lent) (dense : List ℕ) (good : back_test dense c m l ≡ Good) where
+module _ (c : Counts) (m : Memory) (l : Lent) (dense : List ℕ) (good : back_test dense c m l ≡ Ok tt) where
   stands : Stands c (lists m [])
   stands = (passed dense c m l good).stands
 
@@ -113,25 +111,25 @@ module _ (c : Counts) (m : Memory) (l : Lent) (dense : List ℕ) (good : back_te
   }
 
 -- back substitution that isn't refused
-module _ (c : Counts) (m : Memory) (l : Lent) (dense : List ℕ) {after : Counts} (made : (back_substitute c m l dense).answer ≡ Made after) where
+module _ (c : Counts) (m : Memory) (l : Lent) (dense : List ℕ) {after : Counts} (made : (back_substitute c m l dense).answer ≡ Ok after) where
   abbrev result : Backing
   result = (back_substitute c m l dense).memory
 
-  good : back_test dense c m l ≡ Good
+  good : back_test dense c m l ≡ Ok tt
   unfolding back_substitute unless
-  good = go (back_test dense c m l) (backing m.pivots l dense) (outcome (Made (back_counts c (length (flatten (back_rows c m))))) (backed c m l dense)) made
+  good = go (back_test dense c m l) (backing m.pivots l dense) (outcome (Ok (back_counts c (length (flatten (back_rows c m))))) (backed c m l dense)) made
     where
-      go : (t : Tested) (x : Backing) (o : Outcome Backed Backing) → (unless Unmade t x o).answer ≡ Made after → t ≡ Good
-      go Good x o e = refl
-      go (Refused why) x o e = let z : ◌≡◌ {A = ℕ} 0 1 = cc in absurd (omega arith)
+      go : (t : Tested) (x : Backing) (o : Outcome Backed Backing) → (unless Err t x o).answer ≡ Ok after → t ≡ Ok tt
+      go (Ok _) x o e = refl
+      go (Err why) x o e = let z : ◌≡◌ {A = ℕ} 0 1 = cc in absurd (omega arith)
 
-  ends : back_substitute c m l dense ≡ outcome (Made (back_counts c (length (flatten (back_rows c m))))) (backed c m l dense)
+  ends : back_substitute c m l dense ≡ outcome (Ok (back_counts c (length (flatten (back_rows c m))))) (backed c m l dense)
   unfolding back_substitute unless
   ends = rw good
 
   -- the counts: L is empty, and none is kept
   pub back_counted : after ≡ back_counts c (length (flatten (back_rows c m)))
-  back_counted = let e : Made after ≡ Made (back_counts c (length (flatten (back_rows c m)))) = sym made ∙ ap (λ (o : Outcome Backed Backing). o.answer) ends in cc
+  back_counted = let e : Ok after ≡ Ok (back_counts c (length (flatten (back_rows c m)))) = sym made ∙ ap (λ (o : Outcome Backed Backing). o.answer) ends in cc
 
   there : (P : Backing → Type 0) → P (backed c m l dense) → P result
   there P x = subst (λ (o : Outcome Backed Backing). P o.memory) (sym ends) x

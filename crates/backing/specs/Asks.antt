@@ -1,15 +1,13 @@
 -- What the functions of this crate ask of their arguments, and what is seen after one row.
-use Rattle.std.specs.Prelude.{◌≡◌, true, false, ◌||◌, ℕ, ◌+◌, ◌-◌, ◌*◌, ◌≤◌, ◌<◌, List, [], ◌∷◌, map, ltb, length}
+use Rattle.std.specs.Prelude.{◌≡◌, true, false, ◌||◌, ℕ, ◌+◌, ◌-◌, ◌*◌, ◌≤◌, ◌<◌, List, [], ◌∷◌, map, ltb, length, Ok, Some}
 use Rattle.lists.specs.Onto.{◌onto◌}
 use Rattle.lists.specs.Table.{table}
 use Rattle.sparse.specs.Lent.{Lent, room_test, Outcome, outcome}
 use Rattle.sparse.specs.Pivots.{mark}
-use Rattle.sparse.specs.Refusals.{refuse, lowest}
+use Rattle.sparse.specs.Refusals.{refuse, lowest, Tested}
 use Rattle.sparse.specs.Rows.{entries}
 use Rattle.sparse.specs.Tests.{modulus_test, size_test}
 use Rattle.sparse.specs.declared.Refusal.TheVariants.{Mismatch}
-use Rattle.sparse.specs.declared.Tested.{Tested}
-use Rattle.sparse.specs.declared.Tested.TheVariants.{Good}
 use Rattle.state.specs.Asks.{Opened}
 use Rattle.state.specs.Memory.{Memory}
 use Rattle.state.specs.State.{u_fault, u_lost, u_rows}
@@ -17,7 +15,6 @@ use Rattle.state.specs.declared.Counts.{Counts}
 use Rattle.state.specs.declared.Mode.TheVariants.{None}
 use Rattle.walk.specs.Step.{pivot_at, Taken, step}
 use Rattle.walk.specs.Step as S
-use Rattle.walk.specs.declared.Answer.TheVariants.{Accepted}
 use Rattle.taking.specs.Rows.{Shown, storing, Takes}
 use Rattle.taking.specs.Stores.{Upper, lower}
 use Rattle.reduced.specs.Order.{pivot_columns}
@@ -48,7 +45,7 @@ came_to p n rank cols vals u = step true p n rank (S.upper u.cols u.vals u.ptrs 
 pub record Clears (p n rank fill : ℕ) (cols vals dense : List ℕ) (u : Upper) : Type 0 where
   pub takes : Takes true p n None rank fill 0 0 cols vals dense u (lower [] [] [])
   pub head : ℕ
-  pub accepted : (came_to p n rank cols vals u).answer ≡ Accepted head
+  pub accepted : (came_to p n rank cols vals u).answer ≡ Some head
 
 -- what is stored of it
 unfoldable pub stored_row : ℕ → ℕ → ℕ → ℕ → List ℕ → List ℕ → Upper → Shown
@@ -59,5 +56,5 @@ pub record Builds (c : Counts) (m : Memory) (l : Lent) (dense : List ℕ) : Type
   pub opened : Opened c.modulus c.ncols m.pivots
   pub lost : u_lost c.rank c.u_fill m.u_cols m.u_vals m.u_ptrs ≡ false
   pub fault : u_fault c.modulus (u_rows c.ncols c.rank c.u_fill m.u_cols m.u_vals m.u_ptrs) m.pivots ≡ false
-  pub room : room_test c.rank (c.rank * (c.ncols - c.rank + 1)) l ≡ Good
+  pub room : room_test c.rank (c.rank * (c.ncols - c.rank + 1)) l ≡ Ok tt
   pub zero : dense ≡ table c.ncols (λ j. 0)

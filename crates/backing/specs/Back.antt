@@ -1,15 +1,14 @@
 -- Back substitution of a reducer: U's rows, reduced, in a second U.
-use Rattle.std.specs.Prelude.{ℕ, ◌+◌, ◌-◌, ◌*◌, true, ◌||◌, ltb, length}
+use Rattle.std.specs.Prelude.{ℕ, ◌+◌, ◌-◌, ◌*◌, true, ◌||◌, ltb, length, Err, Ok, Result}
 use mathlib.Core.List.{List, [], ◌∷◌, flatten}
 use Rattle.lists.specs.Onto.{◌onto◌}
 use Rattle.lists.specs.Table.{table}
 use Rattle.sparse.specs.Lent.{Lent, room_test, Outcome, outcome, unless}
 use Rattle.sparse.specs.Put.{put_rows}
-use Rattle.sparse.specs.Refusals.{refuse, lowest}
+use Rattle.sparse.specs.Refusals.{refuse, lowest, Tested}
 use Rattle.sparse.specs.Rows.{Entry, row_at}
 use Rattle.sparse.specs.Tests.{modulus_test, size_test}
 use Rattle.sparse.specs.declared.Refusal.TheVariants.{Mismatch}
-use Rattle.sparse.specs.declared.Tested.{Tested}
 use Rattle.state.specs.Fresh.{counts}
 use Rattle.state.specs.Memory.{Memory, memory}
 use Rattle.state.specs.State.{u_of, state_test}
@@ -19,8 +18,11 @@ use Rattle.steps.specs.History.{answered}
 use Rattle.stepping.specs.Take.{cleared}
 use Rattle.reduced.specs.Building.{finished}
 use Rattle.reduced.specs.Order.{row_down}
-use Rattle.backing.specs.declared.Backed.{Backed}
-use Rattle.backing.specs.declared.Backed.TheVariants.{Made, Refused as Unmade}
+use Rattle.sparse.specs.declared.Refusal.{Refusal}
+
+-- what back substitution answers: the counts afterwards, or a refusal
+abbrev pub Backed : Type 0
+Backed = Result Counts Refusal
 
 -- U's rows from the highest pivot column down: the i-th
 unfoldable pub down_row : Counts → Memory → ℕ → List Entry
@@ -73,5 +75,5 @@ backed c m l dense = backing (back_pivots c m onto m.pivots) (put_rows (back_row
 -- refused, or made with the second U's counts; the old U and L stay as they came
 unfoldable pub back_substitute : Counts → Memory → Lent → List ℕ → Outcome Backed Backing
 back_substitute c m l dense =
-    unless Unmade (back_test dense c m l) (backing m.pivots l dense)
-    (outcome (Made (back_counts c (length (flatten (back_rows c m))))) (backed c m l dense))
+    unless Err (back_test dense c m l) (backing m.pivots l dense)
+    (outcome (Ok (back_counts c (length (flatten (back_rows c m))))) (backed c m l dense))

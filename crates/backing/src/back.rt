@@ -5,10 +5,9 @@ ghost use Rattle.state.specs.Memory.{memory};
 ghost use Rattle.backing.specs.Asks.{open_test};
 ghost use Rattle.backing.specs.Back.{back_test, back_counts, backing, back_substitute};
 
-use crate::Backed;
 use crate::rows::build;
 use sparse::inside::{modulus_test, room_test, size_test};
-use sparse::{MAX_ENTRIES, Refusal, Tested};
+use sparse::{MAX_ENTRIES, Refusal};
 use state::inside::state_test;
 use state::{Counts, Mode};
 use walk::kernels::wipe;
@@ -28,23 +27,20 @@ pub fn back_substitute(
     l_vals: &[u32],
     l_ptrs: &[usize],
     pivots: &mut [u32],
-) -> Backed
+) -> Result<Counts, Refusal>
     ensures { outcome result (backing pivots.new (lent back_ptrs.new back_cols.new back_vals.new) dense.new) ≡ back_substitute counts (memory u_cols.now u_vals.now u_ptrs.now l_cols.now l_vals.now l_ptrs.now pivots.old) (lent back_ptrs.old back_cols.old back_vals.old) dense.old }
 {
-    let found = back_test(
+    back_test(
         counts, dense, back_cols, back_vals, back_ptrs, u_cols, u_vals, u_ptrs, l_cols, l_vals,
         l_ptrs, pivots,
-    );
-    if let Tested::Refused(why) = found {
-        return Backed::Refused(why);
-    }
+    )?;
     let n = counts.ncols as usize;
     let front = &mut dense[..n];
     wipe(0, front);
     let fill = build(
         counts, front, back_cols, back_vals, back_ptrs, u_cols, u_vals, u_ptrs, pivots,
     );
-    Backed::Made(back_counts(counts, fill))
+    Ok(back_counts(counts, fill))
 }
 
 // 1, 2, 11, 13 and 14. The rank is known to be a number of rows only after 13.
@@ -61,43 +57,31 @@ fn back_test(
     l_vals: &[u32],
     l_ptrs: &[usize],
     pivots: &[u32],
-) -> Tested
+) -> Result<(), Refusal>
     ensures { result ≡ back_test dense.now counts (memory u_cols.now u_vals.now u_ptrs.now l_cols.now l_vals.now l_ptrs.now pivots.now) (lent back_ptrs.now back_cols.now back_vals.now) }
 {
-    let opened = open_test(counts.modulus, counts.ncols, dense.len(), pivots.len());
-    if let Tested::Refused(why) = opened {
-        return Tested::Refused(why);
-    }
-    let state = state_test(
+    open_test(counts.modulus, counts.ncols, dense.len(), pivots.len())?;
+    state_test(
         counts, u_cols, u_vals, u_ptrs, l_cols, l_vals, l_ptrs, pivots,
-    );
-    if let Tested::Refused(why) = state {
-        return Tested::Refused(why);
-    }
+    )?;
     let rank = counts.rank;
     let entries = rank * (counts.ncols as usize - rank + 1);
     room_test(rank as u32, entries, back_ptrs, back_cols, back_vals)
 }
 
 // 1, 2 and 11.
-fn open_test(p: u32, ncols: u32, dense: usize, table: usize) -> Tested
+fn open_test(p: u32, ncols: u32, dense: usize, table: usize) -> Result<(), Refusal>
     ensures { result ≡ open_test p ncols dense table }
 {
-    let modulus = modulus_test(p);
-    if let Tested::Refused(why) = modulus {
-        return Tested::Refused(why);
-    }
-    let size = size_test(MAX_ENTRIES, 0, ncols, 0);
-    if let Tested::Refused(why) = size {
-        return Tested::Refused(why);
-    }
+    modulus_test(p)?;
+    size_test(MAX_ENTRIES, 0, ncols, 0)?;
     if dense < ncols as usize {
-        return Tested::Refused(Refusal::Mismatch);
+        return Err(Refusal::Mismatch);
     }
     if table < ncols as usize {
-        return Tested::Refused(Refusal::Mismatch);
+        return Err(Refusal::Mismatch);
     }
-    Tested::Good
+    Ok(())
 }
 
 // The counts of so many entries, and of no L.

@@ -8,12 +8,3 @@ mod back;
 mod rows;
 
 pub use back::back_substitute;
-use sparse::Refusal;
-use state::Counts;
-
-// What back substitution answers: the counts of the second U, or why nothing was written.
-#[derive(Clone, Copy)]
-pub enum Backed {
-    Made(Counts),
-    Refused(Refusal),
-}

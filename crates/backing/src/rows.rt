@@ -30,9 +30,8 @@ pub fn build(
 {
     order_down(counts.ncols, back_ptrs, pivots);
     let rank = counts.rank;
-    let mut done = 0;
     let mut fill = 0;
-    while done < rank {
+    for done in 0..rank {
         let row = back_ptrs[done + 1];
         let start = u_ptrs[row];
         let stop = u_ptrs[row + 1];
@@ -48,7 +47,6 @@ pub fn build(
             back_ptrs,
             pivots,
         );
-        done += 1;
     }
     fill
 }
@@ -61,16 +59,13 @@ fn order_down(ncols: u32, back_ptrs: &mut [usize], pivots: &mut [u32])
 {
     back_ptrs[0] = 0;
     let mut found = 0;
-    let mut left = ncols as usize;
-    while left > 0 {
-        left -= 1;
-        let row = pivots[left];
-        pivots[left] = MARK;
-        if row == MARK {
-            continue;
+    for col in (0..ncols as usize).rev() {
+        let row = pivots[col];
+        pivots[col] = MARK;
+        if row != MARK {
+            found += 1;
+            back_ptrs[found] = row as usize;
         }
-        found += 1;
-        back_ptrs[found] = row as usize;
     }
 }
 

@@ -1,5 +1,6 @@
 -- All rows of a matrix: what taking them asks for, and what it comes to.
 -- Assumes nothing.
+use Rattle.std.specs.Prelude.{Ok}
 use mathlib.Core.Path.{◌≡◌, refl, sym, ap, ◌∙◌}
 use mathlib.Core.Bool.{Bool, ◌||◌}
 use mathlib.Core.List.{List, ◌++◌}
@@ -15,7 +16,6 @@ use Rattle.sparse.specs.Refusals.{refuse}
 use Rattle.sparse.specs.Rows.{rows_of}
 use Rattle.sparse.specs.Tests.{size_test, well_formed, clean}
 use Rattle.sparse.specs.declared.Refusal.TheVariants.{Mismatch}
-use Rattle.sparse.specs.declared.Tested.TheVariants.{Good}
 use Rattle.sparse.proofs.Cuts.{small}
 use Rattle.sparse.proofs.Firsts.{neither, refuse_good, refuse_false, lowest_good, lowest_skip, lowest_last}
 use Rattle.state.specs.Asks.{Startable}
@@ -41,7 +41,7 @@ pub record Enough (rows n : ℕ) (dense answers pivots : List ℕ) : Type 0 wher
   pub table_long : n ≤ length pivots
   pub answers_long : rows ≤ length answers
 
-pub enough : (rows n : ℕ) (dense answers pivots : List ℕ) → short_test rows n dense answers pivots ≡ Good → Enough rows n dense answers pivots
+pub enough : (rows n : ℕ) (dense answers pivots : List ℕ) → short_test rows n dense answers pivots ≡ Ok tt → Enough rows n dense answers pivots
 unfolding short_test
 enough rows n dense answers pivots e =
     let all = neither (ltb (length dense) n || ltb (length pivots) n) (ltb (length answers) rows) (refuse_good _ Mismatch e) in
@@ -65,15 +65,15 @@ module _ {p : ℕ} {mode : Mode} {a : Matrix} {w : Night} (s : Anew p mode a w) 
   anew_restarted e = ap (λ (y : Opening). anew y.u_ptrs y.l_ptrs y.pivots) e
 
   -- by its tests a fresh start would be made by `new` too
-  formed : well_formed 65536 p a ≡ Good
+  formed : well_formed 65536 p a ≡ Ok tt
   unfolding clean
   formed = (lowest_good _ _ s.rows).0
 
-  columns_few : size_test 65536 0 a.ncols 0 ≡ Good
+  columns_few : size_test 65536 0 a.ncols 0 ≡ Ok tt
   unfolding well_formed size_test refuse
   columns_few = rw (le-ltb 1024 a.ncols (small 65536 a.nrows a.ncols (length a.values) (lowest_good _ _ (lowest_good _ _ formed).1).0).wide)
 
-  opens : new_test p a.ncols mode o ≡ Good
+  opens : new_test p a.ncols mode o ≡ Ok tt
   unfolding new_test well_formed
   opens =
       lowest_skip _ (lowest_good _ _ formed).0

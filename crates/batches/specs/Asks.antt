@@ -1,8 +1,7 @@
 -- What taking rows asks for: what the tests have shown.
-use Rattle.std.specs.Prelude.{◌≡◌, ℕ, ◌≤◌, length}
+use Rattle.std.specs.Prelude.{◌≡◌, ℕ, ◌≤◌, length, Ok}
 use Rattle.sparse.specs.Matrix.{Matrix}
 use Rattle.sparse.specs.Tests.{clean}
-use Rattle.sparse.specs.declared.Tested.TheVariants.{Good}
 use Rattle.state.specs.Fresh.{start_test}
 use Rattle.state.specs.declared.Counts.{Counts}
 use Rattle.state.specs.declared.Mode.{Mode}
@@ -19,7 +18,7 @@ pub record Begins (c : Counts) (a : Matrix) (w : Night) : Type 0 where
 
 -- clean rows, dense memory and a pivot table with a place for each column, and places for the first pointers
 pub record Anew (p : ℕ) (mode : Mode) (a : Matrix) (w : Night) : Type 0 where
-  pub rows : clean 65536 p a ≡ Good
+  pub rows : clean 65536 p a ≡ Ok tt
   pub long : a.ncols ≤ length w.dense
   pub table : a.ncols ≤ length w.memory.pivots
-  pub room : start_test mode w.memory.u_ptrs w.memory.l_ptrs ≡ Good
+  pub room : start_test mode w.memory.u_ptrs w.memory.l_ptrs ≡ Ok tt

@@ -1,5 +1,6 @@
 -- What the tests before a join leave: the matrices are laid out row by row, and the result is within the limits.
 -- Assumes nothing.
+use Rattle.std.specs.Prelude.{Err, Ok}
 use mathlib.Core.Path.{◌≡◌, refl, sym, ◌∙◌}
 use mathlib.Core.Bool.{Bool, true, false, cond, not}
 use mathlib.Core.List.{List, [], ◌∷◌, ◌++◌, flatten}
@@ -11,12 +12,10 @@ use lib.ListN.{length}
 use borrow.Author.Tests.{le-leb, lt-leb}
 use Rattle.sparse.specs.Lent.{Lent, room_test}
 use Rattle.sparse.specs.Matrix.{Matrix}
-use Rattle.sparse.specs.Refusals.{number, refuse, lowest}
+use Rattle.sparse.specs.Refusals.{number, refuse, lowest, Tested}
 use Rattle.sparse.specs.Rows.{Entry, entries, rows_of}
 use Rattle.sparse.specs.declared.Refusal.{Refusal}
 use Rattle.sparse.specs.declared.Refusal.TheVariants.{Mismatch}
-use Rattle.sparse.specs.declared.Tested.{Tested}
-use Rattle.sparse.specs.declared.Tested.TheVariants.{Good, Refused}
 use Rattle.sparse.proofs.Cuts.{Laid, laid}
 use Rattle.sparse.proofs.Firsts.{lowest_good}
 use Rattle.writing.proofs.Lowests.{both_good}
@@ -30,22 +29,22 @@ use Rattle.below.specs.Parts.{both_tests, rows_in}
 use Rattle.below.proofs.Appends.{rows_sized, row_sized, row_alone, row_cut}
 
 -- neither of two refuses
-pub lower_good : (s t : Tested) → lower s t ≡ Good → (s ≡ Good) × (t ≡ Good)
+pub lower_good : (s t : Tested) → lower s t ≡ Ok tt → (s ≡ Ok tt) × (t ≡ Ok tt)
 unfolding lower
-lower_good Good t e = (refl, e)
-lower_good (Refused r) Good e = (e, refl)
-lower_good (Refused r) (Refused q) e = absurd (never (leb (number r) (number q)) e)
+lower_good (Ok _) t e = (refl, e)
+lower_good (Err r) (Ok _) e = (e, refl)
+lower_good (Err r) (Err q) e = absurd (never (leb (number r) (number q)) e)
   where
-    never : (b : Bool) → cond b (Refused r) (Refused q) ≡ Good → ⊥
+    never : (b : Bool) → ◌≡◌ {A = Tested} (cond b (Err r) (Err q)) (Ok tt) → ⊥
     never true f = let z : ◌≡◌ {A = ℕ} 0 1 = cc in omega arith
     never false f = let z : ◌≡◌ {A = ℕ} 0 1 = cc in omega arith
 
 -- the lower number of two that refuse
-pub lower_first : {s t : Tested} {r q : Refusal} {a b : ℕ} → s ≡ Refused r → t ≡ Refused q → a ≡ number r → b ≡ number q → a ≤ b → Refused r ≡ lower s t
+pub lower_first : {s t : Tested} {r q : Refusal} {a b : ℕ} → s ≡ Err r → t ≡ Err q → a ≡ number r → b ≡ number q → a ≤ b → Err r ≡ lower s t
 unfolding lower
 lower_first e f g h l = rw (e, f, ← g, ← h, le-leb _ _ l)
 
-pub lower_second : {s t : Tested} {r q : Refusal} {a b : ℕ} → s ≡ Refused r → t ≡ Refused q → a ≡ number r → b ≡ number q → b < a → Refused q ≡ lower s t
+pub lower_second : {s t : Tested} {r q : Refusal} {a b : ℕ} → s ≡ Err r → t ≡ Err q → a ≡ number r → b ≡ number q → b < a → Err q ≡ lower s t
 unfolding lower
 lower_second e f g h l = rw (e, f, ← g, ← h, lt-leb _ _ l)
 
@@ -58,7 +57,7 @@ module _ (p : ℕ) (a b : Matrix) where
   unfolding append_test sizes_tests both_tests
   append-tests = rw (add-zero a.ncols)
 
-  both_laid : lowest (both_tests p a b) ≡ Good → Laid a × Laid b
+  both_laid : lowest (both_tests p a b) ≡ Ok tt → Laid a × Laid b
   unfolding both_tests
   both_laid e =
       let one = lowest_good _ _ e in
@@ -66,7 +65,7 @@ module _ (p : ℕ) (a b : Matrix) where
       let rows = lower_good _ _ (lowest_good _ _ two.1).0 in
       (laid a one.0 rows.0, laid b two.0 rows.1)
 
-module _ (p : ℕ) (a b : Matrix) (e : append_test p a b ≡ Good) where
+module _ (p : ℕ) (a b : Matrix) (e : append_test p a b ≡ Ok tt) where
   append-laid : Laid a × Laid b
   append-laid = both_laid p a b (both_good (both_tests p a b) _ (both_good (append-sizes p a b) _ (sym (append-tests p a b) ∙ e)).1).0
 
@@ -76,7 +75,7 @@ module _ (p : ℕ) (a b : Matrix) (e : append_test p a b ≡ Good) where
   pub append-sized : Sized (rows_of a ++ rows_of b) (a.nrows + b.nrows) (length a.values + length b.values)
   append-sized = rows_sized a (rows_of b) b.nrows (length b.values) append-laid.0 (matrix_sized b append-laid.1)
 
-  pub append-fits : (l : Lent) {s : Tested} → s ≡ room_test (a.nrows + b.nrows) (length a.values + length b.values) l → s ≡ Good
+  pub append-fits : (l : Lent) {s : Tested} → s ≡ room_test (a.nrows + b.nrows) (length a.values + length b.values) l → s ≡ Ok tt
       → RowsFit a.nrows a.row_ptrs a.col_idcs a.values b.nrows b.row_ptrs b.col_idcs b.values l
   unfolding rows_in rows_of
   append-fits l q g = record {
@@ -100,7 +99,7 @@ module _ (p : ℕ) (m : Matrix) (cols vals : List ℕ) where
   unfolding add_row_test sizes_tests forms_tests
   row_tests_lem = rw (add-zero m.ncols)
 
-module _ (p : ℕ) (m : Matrix) (cols vals : List ℕ) (e : add_row_test p m cols vals ≡ Good) where
+module _ (p : ℕ) (m : Matrix) (cols vals : List ℕ) (e : add_row_test p m cols vals ≡ Ok tt) where
   row_formed : Formed m m.ncols cols vals
   row_formed = formed p m m.ncols cols vals (both_good (row_sizes p m cols vals) _ (sym (row_tests_lem p m cols vals) ∙ e)).1
 
@@ -110,7 +109,7 @@ module _ (p : ℕ) (m : Matrix) (cols vals : List ℕ) (e : add_row_test p m col
   pub added_sized : Sized (rows_of m ++ (entries cols vals ∷ [])) (m.nrows + 1) (length m.values + length vals)
   added_sized = rows_sized m (entries cols vals ∷ []) 1 (length vals) row_formed.matrix_laid (row_sized cols vals)
 
-  pub added_fits : (l : Lent) {s : Tested} → s ≡ room_test (m.nrows + 1) (length m.values + length vals) l → s ≡ Good
+  pub added_fits : (l : Lent) {s : Tested} → s ≡ room_test (m.nrows + 1) (length m.values + length vals) l → s ≡ Ok tt
       → RowsFit m.nrows m.row_ptrs m.col_idcs m.values 1 (0 ∷ length vals ∷ []) cols vals l
   added_fits l q g = record {
     same = row_formed.matrix_laid.shape.col_each;
@@ -120,6 +119,6 @@ module _ (p : ℕ) (m : Matrix) (cols vals : List ℕ) (e : add_row_test p m col
     rows = record { room = rw (row_alone cols vals) (room_of l q g) };
   }
     where
-      room_of : (l : Lent) {s : Tested} → s ≡ room_test (m.nrows + 1) (length m.values + length vals) l → s ≡ Good
-          → room_test (length (rows_in m.nrows m.row_ptrs m.col_idcs m.values ++ (entries cols vals ∷ []))) (length (flatten (rows_in m.nrows m.row_ptrs m.col_idcs m.values ++ (entries cols vals ∷ [])))) l ≡ Good
+      room_of : (l : Lent) {s : Tested} → s ≡ room_test (m.nrows + 1) (length m.values + length vals) l → s ≡ Ok tt
+          → room_test (length (rows_in m.nrows m.row_ptrs m.col_idcs m.values ++ (entries cols vals ∷ []))) (length (flatten (rows_in m.nrows m.row_ptrs m.col_idcs m.values ++ (entries cols vals ∷ [])))) l ≡ Ok tt
       room_of l q g = room_known (rows_in m.nrows m.row_ptrs m.col_idcs m.values ++ (entries cols vals ∷ [])) l (rows_here m (entries cols vals ∷ []) added_sized) q g

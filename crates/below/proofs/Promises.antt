@@ -3,10 +3,10 @@
 use mathlib.Core.Path.{◌≡◌}
 use mathlib.Core.List.{List}
 use Prim.Native.Nat.{ℕ}
+use Rattle.sparse.specs.Put.{Built}
 use Rattle.lists.proofs.Only.{only}
 use Rattle.sparse.specs.Lent.{Lent, Outcome}
 use Rattle.sparse.specs.Matrix.{Matrix}
-use Rattle.sparse.specs.declared.Built.{Built}
 use Rattle.below.specs.Below.{append, add_row}
 
 pub append-only : (p : ℕ) (a b : Matrix) (l : Lent) {o u : Outcome Built Lent} → o ≡ append p a b l → u ≡ append p a b l → o ≡ u

@@ -1,23 +1,20 @@
 -- What is joined below a matrix: another matrix, a row.
-use Rattle.std.specs.Prelude.{not, cond, List, [], ◌∷◌, ◌++◌, ℕ, ◌+◌, leb, eqb, length}
+use Rattle.std.specs.Prelude.{not, cond, List, [], ◌∷◌, ◌++◌, ℕ, ◌+◌, leb, eqb, length, Err, Ok}
 use Rattle.sparse.specs.Lent.{Lent, Outcome}
 use Rattle.sparse.specs.Matrix.{Matrix}
-use Rattle.sparse.specs.Put.{putting}
-use Rattle.sparse.specs.Refusals.{number, refuse, lowest}
+use Rattle.sparse.specs.Put.{putting, Built}
+use Rattle.sparse.specs.Refusals.{number, refuse, lowest, Tested}
 use Rattle.sparse.specs.Rows.{entries, rows_of}
 use Rattle.sparse.specs.Tests.{modulus_test, size_test, shape_test, columns_test, rows_test, values_test, rows_values_test}
-use Rattle.sparse.specs.declared.Built.{Built}
 use Rattle.sparse.specs.declared.Refusal.TheVariants.{Mismatch}
-use Rattle.sparse.specs.declared.Tested.{Tested}
-use Rattle.sparse.specs.declared.Tested.TheVariants.{Good, Refused}
 use Rattle.sparse.specs.declared.inside.Clause.TheVariants.{Residue}
 use Rattle.joining.specs.Joined.{pairs_test}
 
 -- the lower number of two: 4 and 5 of two matrices
 unfoldable pub lower : Tested → Tested → Tested
-lower Good u = u
-lower (Refused r) Good = Refused r
-lower (Refused r) (Refused q) = cond (leb (number r) (number q)) (Refused r) (Refused q)
+lower (Ok _) u = u
+lower (Err r) (Ok _) = Err r
+lower (Err r) (Err q) = cond (leb (number r) (number q)) (Err r) (Err q)
 
 -- `append`: the first's rows, then the second's
 unfoldable pub append_test : ℕ → Matrix → Matrix → Tested

@@ -1,10 +1,10 @@
 -- Parts of the joins' definitions that a function of its own tests or writes.
+use Rattle.sparse.specs.Refusals.{Tested}
 use Rattle.std.specs.Prelude.{cond, List, [], ◌∷◌, ℕ, ◌-◌, ltb}
 use Rattle.lists.specs.Table.{table}
 use Rattle.sparse.specs.Matrix.{Matrix, row}
 use Rattle.sparse.specs.Rows.{Entry, entries}
 use Rattle.sparse.specs.Tests.{shape_test, rows_test, rows_values_test}
-use Rattle.sparse.specs.declared.Tested.{Tested}
 use Rattle.sparse.specs.declared.inside.Clause.TheVariants.{Residue}
 use Rattle.below.specs.Below.{lower}
 

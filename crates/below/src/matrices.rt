@@ -8,8 +8,8 @@ ghost use Rattle.below.specs.Parts.{both_tests};
 
 use crate::rows::write_rows;
 use joining::inside::sizes_test;
-use sparse::inside::{Clause, number_of, room_test, rows_test, rows_values_test, shape_test};
-use sparse::{Built, Refusal, Tested};
+use sparse::Refusal;
+use sparse::inside::{Clause, room_test, rows_test, rows_values_test, shape_test};
 
 // The first matrix's rows, then the second's; or the lowest of 1 to 6, 11 and 14 that applies, and the
 // memory as it came.
@@ -28,10 +28,10 @@ pub fn append(
     out_ptrs: &mut [usize],
     out_cols: &mut [u32],
     out_vals: &mut [u32],
-) -> Built
+) -> Result<usize, Refusal>
     ensures { outcome result (lent out_ptrs.new out_cols.new out_vals.new) ≡ Rattle.below.specs.Below.append p (matrix nrows ncols row_ptrs.now col_idcs.now values.now) (matrix more_nrows more_ncols more_ptrs.now more_cols.now more_values.now) (lent out_ptrs.old out_cols.old out_vals.old) }
 {
-    let found = append_test(
+    append_test(
         p,
         nrows,
         ncols,
@@ -43,15 +43,9 @@ pub fn append(
         more_ptrs,
         more_cols,
         more_values,
-    );
-    if let Tested::Refused(why) = found {
-        return Built::Refused(why);
-    }
+    )?;
     let entries = values.len() + more_values.len();
-    let room = room_test(nrows + more_nrows, entries, out_ptrs, out_cols, out_vals);
-    if let Tested::Refused(why) = room {
-        return Built::Refused(why);
-    }
+    room_test(nrows + more_nrows, entries, out_ptrs, out_cols, out_vals)?;
     write_rows(
         nrows,
         row_ptrs,
@@ -65,7 +59,7 @@ pub fn append(
         out_cols,
         out_vals,
     );
-    Built::Made(entries)
+    Ok(entries)
 }
 
 // 1 to 6 of both, 2 of the result, and 11.
@@ -81,18 +75,15 @@ fn append_test(
     more_ptrs: &[usize],
     more_cols: &[u32],
     more_values: &[u32],
-) -> Tested
+) -> Result<(), Refusal>
     ensures { result ≡ append_test p (matrix nrows ncols row_ptrs.now col_idcs.now values.now) (matrix more_nrows more_ncols more_ptrs.now more_cols.now more_values.now) }
 {
     let entries = values.len();
     let more = more_values.len();
-    let sizes = sizes_test(
+    sizes_test(
         p, nrows, ncols, entries, more_nrows, more_ncols, more, more_nrows, 0,
-    );
-    if let Tested::Refused(why) = sizes {
-        return Tested::Refused(why);
-    }
-    let forms = both_test(
+    )?;
+    both_test(
         p,
         nrows,
         ncols,
@@ -104,14 +95,11 @@ fn append_test(
         more_ptrs,
         more_cols,
         more_values,
-    );
-    if let Tested::Refused(why) = forms {
-        return Tested::Refused(why);
-    }
+    )?;
     if ncols != more_ncols {
-        return Tested::Refused(Refusal::Mismatch);
+        return Err(Refusal::Mismatch);
     }
-    Tested::Good
+    Ok(())
 }
 
 // 3 to 6 of two matrices.
@@ -127,43 +115,31 @@ fn both_test(
     more_ptrs: &[usize],
     more_cols: &[u32],
     more_values: &[u32],
-) -> Tested
+) -> Result<(), Refusal>
     requires { nrows + more_nrows ≤ 1024 }
     ensures { result ≡ lowest (both_tests p (matrix nrows ncols row_ptrs.now col_idcs.now values.now) (matrix more_nrows more_ncols more_ptrs.now more_cols.now more_values.now)) }
 {
-    let shape = shape_test(nrows, ncols, row_ptrs, col_idcs, values);
-    if let Tested::Refused(why) = shape {
-        return Tested::Refused(why);
-    }
-    let other = shape_test(more_nrows, more_ncols, more_ptrs, more_cols, more_values);
-    if let Tested::Refused(why) = other {
-        return Tested::Refused(why);
-    }
+    shape_test(nrows, ncols, row_ptrs, col_idcs, values)?;
+    shape_test(more_nrows, more_ncols, more_ptrs, more_cols, more_values)?;
     let one = rows_test(nrows, ncols, row_ptrs, col_idcs);
     let two = rows_test(more_nrows, more_ncols, more_ptrs, more_cols);
-    let rows = lower_of(one, two);
-    if let Tested::Refused(why) = rows {
-        return Tested::Refused(why);
-    }
-    let residues = rows_values_test(Clause::Residue, p, nrows, row_ptrs, values);
-    if let Tested::Refused(why) = residues {
-        return Tested::Refused(why);
-    }
+    lower_of(one, two)?;
+    rows_values_test(Clause::Residue, p, nrows, row_ptrs, values)?;
     rows_values_test(Clause::Residue, p, more_nrows, more_ptrs, more_values)
 }
 
 // The lower number of two, for 4 and 5 of two matrices.
-fn lower_of(first: Tested, second: Tested) -> Tested
+fn lower_of(first: Result<(), Refusal>, second: Result<(), Refusal>) -> Result<(), Refusal>
     ensures { result ≡ lower first second }
 {
-    let Tested::Refused(one) = first else {
+    let Err(one) = first else {
         return second;
     };
-    let Tested::Refused(two) = second else {
-        return Tested::Refused(one);
+    let Err(two) = second else {
+        return Err(one);
     };
-    if number_of(one) <= number_of(two) {
-        return Tested::Refused(one);
+    if u32::from(one) <= u32::from(two) {
+        return Err(one);
     }
-    Tested::Refused(two)
+    Err(two)
 }

@@ -31,8 +31,7 @@ pub fn write_rows(
     let first = nrows as usize;
     let total = first + more_nrows as usize;
     let mut at = 0;
-    let mut i = 0;
-    while i < total {
+    for i in 0..total {
         at = put_either_row(
             first,
             row_ptrs,
@@ -46,8 +45,7 @@ pub fn write_rows(
             out_cols,
             out_vals,
         );
-        i += 1;
-        out_ptrs[i] = at;
+        out_ptrs[i + 1] = at;
     }
 }
 

@@ -6,8 +6,8 @@ ghost use Rattle.below.specs.Below.{add_row, add_row_test};
 
 use crate::rows::write_rows;
 use joining::inside::{forms_test, sizes_test};
+use sparse::Refusal;
 use sparse::inside::room_test;
-use sparse::{Built, Tested};
 
 // The matrix with the row last; or the lowest of 1 to 6 and 14 that applies, and the memory as it came.
 pub fn add_row(
@@ -22,23 +22,17 @@ pub fn add_row(
     out_ptrs: &mut [usize],
     out_cols: &mut [u32],
     out_vals: &mut [u32],
-) -> Built
+) -> Result<usize, Refusal>
     ensures { outcome result (lent out_ptrs.new out_cols.new out_vals.new) ≡ add_row p (matrix nrows ncols row_ptrs.now col_idcs.now values.now) cols.now vals.now (lent out_ptrs.old out_cols.old out_vals.old) }
 {
-    let found = add_row_test(p, nrows, ncols, row_ptrs, col_idcs, values, cols, vals);
-    if let Tested::Refused(why) = found {
-        return Built::Refused(why);
-    }
+    add_row_test(p, nrows, ncols, row_ptrs, col_idcs, values, cols, vals)?;
     let entries = values.len() + vals.len();
-    let room = room_test(nrows + 1, entries, out_ptrs, out_cols, out_vals);
-    if let Tested::Refused(why) = room {
-        return Built::Refused(why);
-    }
+    room_test(nrows + 1, entries, out_ptrs, out_cols, out_vals)?;
     let ptrs: [usize; 2] = [0, vals.len()];
     write_rows(
         nrows, row_ptrs, col_idcs, values, 1, &ptrs, cols, vals, out_ptrs, out_cols, out_vals,
     );
-    Built::Made(entries)
+    Ok(entries)
 }
 
 // 1 to 6 of the matrix and of the row, and 2 of the result.
@@ -51,13 +45,10 @@ fn add_row_test(
     values: &[u32],
     cols: &[u32],
     vals: &[u32],
-) -> Tested
+) -> Result<(), Refusal>
     ensures { result ≡ add_row_test p (matrix nrows ncols row_ptrs.now col_idcs.now values.now) cols.now vals.now }
 {
-    let sizes = sizes_test(p, nrows, ncols, values.len(), 1, ncols, vals.len(), 1, 0);
-    if let Tested::Refused(why) = sizes {
-        return Tested::Refused(why);
-    }
+    sizes_test(p, nrows, ncols, values.len(), 1, ncols, vals.len(), 1, 0)?;
     forms_test(
         p, nrows, ncols, row_ptrs, col_idcs, values, ncols, cols, vals,
     )

@@ -3,10 +3,10 @@
 use mathlib.Core.Path.{◌≡◌}
 use mathlib.Core.List.{List}
 use Prim.Native.Nat.{ℕ}
+use Rattle.sparse.specs.Put.{Built}
 use Rattle.lists.proofs.Only.{only}
 use Rattle.sparse.specs.Lent.{Lent, Outcome}
 use Rattle.sparse.specs.Matrix.{Matrix}
-use Rattle.sparse.specs.declared.Built.{Built}
 use Rattle.beside.specs.Beside.{append_col, append_identity}
 
 pub append_identity_only : (p : ℕ) (m : Matrix) (l : Lent) {o u : Outcome Built Lent} → o ≡ append_identity p m l → u ≡ append_identity p m l → o ≡ u

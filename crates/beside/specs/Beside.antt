@@ -4,13 +4,11 @@ use Rattle.lists.specs.Find.{keep}
 use Rattle.lists.specs.Table.{table}
 use Rattle.sparse.specs.Lent.{Lent, Outcome}
 use Rattle.sparse.specs.Matrix.{Matrix}
-use Rattle.sparse.specs.Put.{putting}
-use Rattle.sparse.specs.Refusals.{refuse, lowest}
+use Rattle.sparse.specs.Put.{putting, Built}
+use Rattle.sparse.specs.Refusals.{refuse, lowest, Tested}
 use Rattle.sparse.specs.Rows.{Entry, entry, entries, row_at}
 use Rattle.sparse.specs.Tests.{modulus_test, size_test, shape_test, columns_test, rows_test, values_test, rows_values_test, matrix_test}
-use Rattle.sparse.specs.declared.Built.{Built}
 use Rattle.sparse.specs.declared.Refusal.TheVariants.{NotSquare, Mismatch}
-use Rattle.sparse.specs.declared.Tested.{Tested}
 use Rattle.sparse.specs.declared.inside.Clause.TheVariants.{Residue}
 use Rattle.joining.specs.Joined.{pairs_test}
 

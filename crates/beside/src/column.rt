@@ -12,8 +12,8 @@ ghost use Rattle.beside.specs.Beside.{with_column, append_col, append_col_test};
 ghost use Rattle.beside.specs.Parts.{in_column};
 
 use joining::inside::{forms_test, sizes_test};
+use sparse::Refusal;
 use sparse::inside::room_test;
-use sparse::{Built, Refusal, Tested};
 use writing::inside::{put_matrix_row, put_row_and};
 
 // The matrix with the vector as its last column, n; or the lowest of 1 to 6, 11 and 14 that applies,
@@ -31,24 +31,18 @@ pub fn append_col(
     out_ptrs: &mut [usize],
     out_cols: &mut [u32],
     out_vals: &mut [u32],
-) -> Built
+) -> Result<usize, Refusal>
     ensures { outcome result (lent out_ptrs.new out_cols.new out_vals.new) ≡ append_col p (matrix nrows ncols row_ptrs.now col_idcs.now values.now) len idcs.now col_values.now (lent out_ptrs.old out_cols.old out_vals.old) }
 {
-    let found = append_col_test(
+    append_col_test(
         p, nrows, ncols, row_ptrs, col_idcs, values, len, idcs, col_values,
-    );
-    if let Tested::Refused(why) = found {
-        return Built::Refused(why);
-    }
+    )?;
     let entries = values.len() + col_values.len();
-    let room = room_test(nrows, entries, out_ptrs, out_cols, out_vals);
-    if let Tested::Refused(why) = room {
-        return Built::Refused(why);
-    }
+    room_test(nrows, entries, out_ptrs, out_cols, out_vals)?;
     write_column(
         nrows, ncols, row_ptrs, col_idcs, values, idcs, col_values, out_ptrs, out_cols, out_vals,
     );
-    Built::Made(entries)
+    Ok(entries)
 }
 
 // 1 to 6 of both, 2 of the result, and 11.
@@ -62,10 +56,10 @@ fn append_col_test(
     len: u32,
     idcs: &[u32],
     col_values: &[u32],
-) -> Tested
+) -> Result<(), Refusal>
     ensures { result ≡ append_col_test p (matrix nrows ncols row_ptrs.now col_idcs.now values.now) len idcs.now col_values.now }
 {
-    let sizes = sizes_test(
+    sizes_test(
         p,
         nrows,
         ncols,
@@ -75,20 +69,14 @@ fn append_col_test(
         col_values.len(),
         0,
         1,
-    );
-    if let Tested::Refused(why) = sizes {
-        return Tested::Refused(why);
-    }
-    let forms = forms_test(
+    )?;
+    forms_test(
         p, nrows, ncols, row_ptrs, col_idcs, values, len, idcs, col_values,
-    );
-    if let Tested::Refused(why) = forms {
-        return Tested::Refused(why);
-    }
+    )?;
     if len != nrows {
-        return Tested::Refused(Refusal::Mismatch);
+        return Err(Refusal::Mismatch);
     }
-    Tested::Good
+    Ok(())
 }
 
 // Writes each row with the vector's entry; `next` is the first entry that isn't written.
@@ -110,14 +98,12 @@ fn write_column(
     out_ptrs[0] = 0;
     let mut at = 0;
     let mut next = 0;
-    let mut row = 0;
-    while row < nrows {
+    for row in 0..nrows {
         at = put_column_row(
             ncols, row_ptrs, col_idcs, values, row, idcs, nums, next, at, out_cols, out_vals,
         );
         next = past_row(idcs, next, row);
-        row += 1;
-        out_ptrs[row as usize] = at;
+        out_ptrs[row as usize + 1] = at;
     }
 }
 

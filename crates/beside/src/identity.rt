@@ -8,7 +8,7 @@ ghost use Rattle.beside.specs.Asks.{OnesFit};
 ghost use Rattle.beside.specs.Beside.{with_one, append_identity, append_identity_test};
 
 use sparse::inside::{matrix_test, modulus_test, room_test, size_test};
-use sparse::{Built, MAX_ENTRIES, Refusal, Tested};
+use sparse::{MAX_ENTRIES, Refusal};
 use writing::inside::put_row_and;
 
 // The matrix with the identity beside it, 1 at column n + row; or the lowest of 1 to 6, 10 and 14
@@ -23,22 +23,16 @@ pub fn append_identity(
     out_ptrs: &mut [usize],
     out_cols: &mut [u32],
     out_vals: &mut [u32],
-) -> Built
+) -> Result<usize, Refusal>
     ensures { outcome result (lent out_ptrs.new out_cols.new out_vals.new) ≡ append_identity p (matrix nrows ncols row_ptrs.now col_idcs.now values.now) (lent out_ptrs.old out_cols.old out_vals.old) }
 {
-    let found = append_identity_test(p, nrows, ncols, row_ptrs, col_idcs, values);
-    if let Tested::Refused(why) = found {
-        return Built::Refused(why);
-    }
+    append_identity_test(p, nrows, ncols, row_ptrs, col_idcs, values)?;
     let entries = values.len() + nrows as usize;
-    let room = room_test(nrows, entries, out_ptrs, out_cols, out_vals);
-    if let Tested::Refused(why) = room {
-        return Built::Refused(why);
-    }
+    room_test(nrows, entries, out_ptrs, out_cols, out_vals)?;
     write_identity(
         nrows, ncols, row_ptrs, col_idcs, values, out_ptrs, out_cols, out_vals,
     );
-    Built::Made(entries)
+    Ok(entries)
 }
 
 // 1 to 6 of the matrix, 2 of the result, and 10.
@@ -49,30 +43,18 @@ fn append_identity_test(
     row_ptrs: &[usize],
     col_idcs: &[u32],
     values: &[u32],
-) -> Tested
+) -> Result<(), Refusal>
     ensures { result ≡ append_identity_test p (matrix nrows ncols row_ptrs.now col_idcs.now values.now) }
 {
-    let modulus = modulus_test(p);
-    if let Tested::Refused(why) = modulus {
-        return Tested::Refused(why);
-    }
-    let size = size_test(MAX_ENTRIES, nrows, ncols, values.len());
-    if let Tested::Refused(why) = size {
-        return Tested::Refused(why);
-    }
+    modulus_test(p)?;
+    size_test(MAX_ENTRIES, nrows, ncols, values.len())?;
     let entries = values.len() + nrows as usize;
-    let joined = size_test(MAX_ENTRIES, nrows, ncols + nrows, entries);
-    if let Tested::Refused(why) = joined {
-        return Tested::Refused(why);
-    }
-    let formed = matrix_test(p, nrows, ncols, row_ptrs, col_idcs, values);
-    if let Tested::Refused(why) = formed {
-        return Tested::Refused(why);
-    }
+    size_test(MAX_ENTRIES, nrows, ncols + nrows, entries)?;
+    matrix_test(p, nrows, ncols, row_ptrs, col_idcs, values)?;
     if nrows != ncols {
-        return Tested::Refused(Refusal::NotSquare);
+        return Err(Refusal::NotSquare);
     }
-    Tested::Good
+    Ok(())
 }
 
 // Writes each row with its 1.
@@ -91,8 +73,7 @@ fn write_identity(
 {
     out_ptrs[0] = 0;
     let mut at = 0;
-    let mut row = 0;
-    while row < nrows {
+    for row in 0..nrows {
         let i = row as usize;
         at = put_row_and(
             row_ptrs,
@@ -105,7 +86,6 @@ fn write_identity(
             out_cols,
             out_vals,
         );
-        row += 1;
-        out_ptrs[row as usize] = at;
+        out_ptrs[i + 1] = at;
     }
 }

@@ -1,5 +1,6 @@
 -- U's and L's slices: what tests that find nothing tell of them, and the state's own test of U.
 -- Assumes nothing.
+use Rattle.std.specs.Prelude.{Err, Ok, is_err}
 use mathlib.Core.Path.{◌≡◌, refl, sym, ap, subst, ◌∙◌}
 use mathlib.Core.Logic.{⊎_elim}
 use mathlib.Core.Bool.{Bool, true, false, not, ◌||◌, or-true, true≢false}
@@ -16,17 +17,15 @@ use lib.Seq.{take_all}
 use Rattle.lists.specs.Find.{any}
 use Rattle.lists.proofs.Find.{told, any_false}
 use Rattle.sparse.specs.Matrix.{Matrix, matrix}
-use Rattle.sparse.specs.Refusals.{refuse, ◌else◌, lowest}
+use Rattle.sparse.specs.Refusals.{refuse, ◌else◌, lowest, Tested}
 use Rattle.sparse.specs.Tests.{modulus_test, size_test, well_formed, clean}
 use Rattle.sparse.specs.declared.Refusal.{Refusal}
-use Rattle.sparse.specs.declared.Tested.{Tested}
-use Rattle.sparse.specs.declared.Tested.TheVariants.{Good, Refused}
 use Rattle.sparse.specs.declared.Refusal.TheVariants.{State}
 use Rattle.sparse.proofs.Firsts.{neither, lowest_stop, lowest_next, lowest_last}
 use Rattle.adding.specs.RowTests.{short_test}
 use Rattle.state.specs.Fresh.{counts}
 use Rattle.state.specs.Memory.{memory, places}
-use Rattle.state.specs.State.{is_refused, u_fault, u_lost, u_rows, u_of, crooked, l_fault, state_test}
+use Rattle.state.specs.State.{u_fault, u_lost, u_rows, u_of, crooked, l_fault, state_test}
 use Rattle.state.specs.declared.Mode.TheVariants.{None}
 use Rattle.state.proofs.Faults.{fault_high}
 use Rattle.accounts.specs.Account.{Account}
@@ -82,12 +81,12 @@ unfolding u_rows
 whole_same n cols vals ptrs pos same = λ i. matrix (length ptrs - 1) n (take_all (length ptrs - 1 + 1) ptrs (omega arith) i) (take_all (length vals) cols (omega arith) i) (take_all (length vals) vals (le_refl (length vals)) i)
 
 -- more entries than are allowed aren't clean
-fault_long : (p : ℕ) (u : Matrix) (pivots : List ℕ) → modulus_test p ≡ Good → 1048576 < length u.values → u_fault p u pivots ≡ true
-unfolding u_fault clean well_formed size_test refuse lowest ◌else◌ is_refused
+fault_long : (p : ℕ) (u : Matrix) (pivots : List ℕ) → modulus_test p ≡ Ok tt → 1048576 < length u.values → u_fault p u pivots ≡ true
+unfolding u_fault clean well_formed size_test refuse lowest ◌else◌
 fault_long p u pivots m h = rw (m, lt-ltb 1048576 (length u.values) h, or-true (ltb 1024 u.nrows || ltb 1024 u.ncols))
 
-refused_is : (b : Bool) (r : Refusal) → is_refused (refuse b r) ≡ b
-unfolding is_refused refuse
+refused_is : (b : Bool) (r : Refusal) → is_err (refuse b r) ≡ b
+unfolding refuse
 refused_is true r = refl
 refused_is false r = refl
 
@@ -121,11 +120,11 @@ module _ {p n : ℕ} {cols vals ptrs pivots : List ℕ} (s : Whole p n cols vals
   either = ⊎_elim (λ q. rw (lost_fault q) (or-true lost)) (λ q. rw q) (told lost)
 
   -- the state's test, of a reducer without L
-  pub whole_fault : {t : Tested} {r : Bool} → t ≡ state_test (counts None p n (length ptrs - 1) (length vals) 0 0) (memory cols vals ptrs cols vals ptrs pivots) → r ≡ is_refused t → r ≡ u_fault p u pivots
+  pub whole_fault : {t : Tested} {r : Bool} → t ≡ state_test (counts None p n (length ptrs - 1) (length vals) 0 0) (memory cols vals ptrs cols vals ptrs pivots) → r ≡ is_err t → r ≡ u_fault p u pivots
   unfolding state_test u_of l_fault
   whole_fault tested q =
       q
-      ∙ ap is_refused tested
+      ∙ ap is_err tested
       ∙ refused_is _ _
       ∙ no_l (lost || u_fault p (u_rows n (length ptrs - 1) (length vals) cols vals ptrs) pivots)
       ∙ ap (λ (m : Matrix). lost || u_fault p m pivots) (whole_same n cols vals ptrs s.pointers s.same)
@@ -139,14 +138,14 @@ module _ {p n : ℕ} {cols vals ptrs pivots : List ℕ} (s : Whole p n cols vals
 lowest_both : (xs ys : List Tested) → lowest (xs ++ ys) ≡ lowest xs else lowest ys
 unfolding lowest ◌else◌
 lowest_both [] ys = refl
-lowest_both (Good ∷ xs) ys = lowest_both xs ys
-lowest_both (Refused r ∷ xs) ys = refl
+lowest_both (Ok _ ∷ xs) ys = lowest_both xs ys
+lowest_both (Err r ∷ xs) ys = refl
 
-tests_stop : {s : Tested} {r : Refusal} (xs ys : List Tested) → s ≡ lowest xs → s ≡ Refused r → Refused r ≡ lowest (xs ++ ys)
+tests_stop : {s : Tested} {r : Refusal} (xs ys : List Tested) → s ≡ lowest xs → s ≡ Err r → Err r ≡ lowest (xs ++ ys)
 unfolding ◌else◌
 tests_stop xs ys q e = sym (lowest_both xs ys ∙ ap (λ (t : Tested). t else lowest ys) (sym q ∙ e))
 
-tests_next : {s x : Tested} (xs ys : List Tested) → s ≡ lowest xs → s ≡ Good → x ≡ lowest ys → x ≡ lowest (xs ++ ys)
+tests_next : {s x : Tested} (xs ys : List Tested) → s ≡ lowest xs → s ≡ Ok tt → x ≡ lowest ys → x ≡ lowest (xs ++ ys)
 unfolding ◌else◌
 tests_next xs ys q e h = h ∙ sym (lowest_both xs ys ∙ ap (λ (t : Tested). t else lowest ys) (sym q ∙ e))
 
@@ -155,15 +154,15 @@ module _ (dense : List ℕ) (a : Account) {s : Tested} (rows : s ≡ lowest (row
   abbrev after : List Tested
   after = memory_test dense a ∷ slices_test a ∷ []
 
-  pub account_rows : {r : Refusal} → s ≡ Refused r → Refused r ≡ account_test dense a
+  pub account_rows : {r : Refusal} → s ≡ Err r → Err r ≡ account_test dense a
   unfolding account_test answers_test rows_tests
   account_rows e = tests_stop (rows_tests a.modulus a.rows a.answers) after rows e
 
-  module _ (fine : s ≡ Good) {t : Tested} (short : t ≡ short_test a.rows.ncols dense a.memory.pivots) where
-    pub account_short : {r : Refusal} → t ≡ Refused r → Refused r ≡ account_test dense a
+  module _ (fine : s ≡ Ok tt) {t : Tested} (short : t ≡ short_test a.rows.ncols dense a.memory.pivots) where
+    pub account_short : {r : Refusal} → t ≡ Err r → Err r ≡ account_test dense a
     unfolding account_test answers_test rows_tests memory_test short_test
     account_short e = tests_next (rows_tests a.modulus a.rows a.answers) after rows fine (lowest_stop (slices_test a ∷ []) short e)
 
-    pub account_slices : t ≡ Good → {x : Tested} → x ≡ refuse (broken a.memory.u_cols a.memory.u_vals a.memory.u_ptrs || broken a.memory.l_cols a.memory.l_vals a.memory.l_ptrs) State → x ≡ account_test dense a
+    pub account_slices : t ≡ Ok tt → {x : Tested} → x ≡ refuse (broken a.memory.u_cols a.memory.u_vals a.memory.u_ptrs || broken a.memory.l_cols a.memory.l_vals a.memory.l_ptrs) State → x ≡ account_test dense a
     unfolding account_test answers_test rows_tests memory_test short_test slices_test
     account_slices e q = tests_next (rows_tests a.modulus a.rows a.answers) after rows fine (lowest_next (slices_test a ∷ []) short e (lowest_last q))

@@ -1,20 +1,20 @@
 -- The account check: what its tests give, and each outcome.
 -- Assumes nothing.
-use mathlib.Core.Path.{◌≡◌, refl, sym, ap, ap₂, ◌∙◌}
-use mathlib.Core.Bool.{Bool, true, false, not, cond}
+use Rattle.std.specs.Prelude.{Err, Ok, false, true}
+use mathlib.Core.Path.{◌≡◌, sym, ap, ap₂, ◌∙◌}
+use mathlib.Core.Bool.{Bool, true, false, not}
 use mathlib.Core.List.{List, ◌++◌}
 use Prim.Native.Nat.{ℕ, ◌≤◌}
 use native.Mathlib.Omega.{arith}
 use borrow.Author.Tests.{ltb-false, eqb-true, not-false}
 use lib.Dec.{ltb}
 use lib.ListN.{length, take, drop}
+use Rattle.sparse.specs.Refusals.{Tested}
 use Rattle.lists.specs.Table.{table}
 use Rattle.sparse.specs.Lent.{Outcome, outcome, unless}
 use Rattle.sparse.specs.Tests.{clean}
 use Rattle.sparse.specs.declared.Refusal.{Refusal}
 use Rattle.sparse.specs.declared.Refusal.TheVariants.{Shape, Mismatch, State}
-use Rattle.sparse.specs.declared.Tested.{Tested}
-use Rattle.sparse.specs.declared.Tested.TheVariants.{Good, Refused as Unfit}
 use Rattle.sparse.proofs.Cuts.{small}
 use Rattle.sparse.proofs.Firsts.{refuse_good, neither, lowest_good}
 use Rattle.state.specs.State.{u_fault}
@@ -28,21 +28,19 @@ use Rattle.accounts.proofs.Presents.{presented_prime}
 use Rattle.accounts.proofs.Wholes.{whole_row}
 use Rattle.judging.specs.Asks.{upper}
 use Rattle.checking.specs.Asks.{Whole, Checks}
-use Rattle.checking.specs.Check.{check_account, judged, verdict}
+use Rattle.checking.specs.Check.{check_account, judged}
 use Rattle.checking.specs.Rows.{rows_fault}
-use Rattle.checking.specs.declared.Verdict.{Verdict}
-use Rattle.checking.specs.declared.Verdict.TheVariants.{Yes, No, Refused}
 use Rattle.checking.proofs.Slices.{Unbroken, unbroken, unbroken_lower}
 
 -- an account that isn't refused
 pub record Apt (a : Account) (dense : List ℕ) : Type 0 where
   pub whole : Whole a.modulus a.rows.ncols a.memory.u_cols a.memory.u_vals a.memory.u_ptrs a.memory.pivots
   pub answers : length a.answers ≡ a.rows.nrows
-  pub rows : clean 65536 a.modulus a.rows ≡ Good
+  pub rows : clean 65536 a.modulus a.rows ≡ Ok tt
   pub long : a.rows.ncols ≤ length dense
   pub lower : Unbroken a.memory.l_cols a.memory.l_vals a.memory.l_ptrs
 
-module _ (a : Account) (dense : List ℕ) (good : account_test dense a ≡ Good) where
+module _ (a : Account) (dense : List ℕ) (good : account_test dense a ≡ Ok tt) where
   pub apt : Apt a dense
   unfolding account_test answers_test memory_test slices_test
   apt =
@@ -103,16 +101,10 @@ module _ (a : Account) (dense : List ℕ) (good : account_test dense a ≡ Good)
 
 -- a refusal, and a verdict
 module _ (a : Account) (dense : List ℕ) {t : Tested} (tested : t ≡ account_test dense a) where
-  pub check_refused : {why : Refusal} → t ≡ Unfit why → outcome (Refused why) dense ≡ check_account a dense
+  pub check_refused : {why : Refusal} → t ≡ Err why → outcome (Err why) dense ≡ check_account a dense
   unfolding check_account judged unless
   check_refused e = rw (sym tested ∙ e)
 
-  pub check_judged : t ≡ Good → {b : Bool} {d : List ℕ} → outcome b d ≡ outcome (account_fault at_once a) (cleared a.rows.ncols dense) → {v : Verdict} → v ≡ verdict b → outcome v d ≡ check_account a dense
-  unfolding check_account judged unless verdict is_account
-  check_judged e {b} {d} fault q =
-      rw (sym tested ∙ e)
-      (ap₂ (λ (v : Verdict) (x : List ℕ). outcome v x) (q ∙ turned b ∙ ap (λ (o : Outcome Bool (List ℕ)). cond (not o.answer) Yes No) fault) (ap (λ (o : Outcome Bool (List ℕ)). o.memory) fault))
-    where
-      turned : (b : Bool) → cond b No Yes ≡ cond (not b) Yes No
-      turned true = refl
-      turned false = refl
+  pub check_judged : t ≡ Ok tt → {b : Bool} {d : List ℕ} → outcome b d ≡ outcome (account_fault at_once a) (cleared a.rows.ncols dense) → outcome (Ok (not b)) d ≡ check_account a dense
+  unfolding check_account judged unless is_account
+  check_judged e fault = rw (sym tested ∙ e) (ap (λ (o : Outcome Bool (List ℕ)). outcome (Ok (not o.answer)) o.memory) fault)

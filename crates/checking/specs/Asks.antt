@@ -1,10 +1,9 @@
 -- What the parts of the account check ask for: what the tests before them have shown.
-use Rattle.std.specs.Prelude.{◌≡◌, List, ℕ, ◌-◌, ◌<◌, length}
+use Rattle.std.specs.Prelude.{◌≡◌, List, ℕ, ◌-◌, ◌<◌, length, Ok}
 use Rattle.lists.specs.Table.{table}
 use Rattle.sparse.specs.Asks.{Cut}
 use Rattle.sparse.specs.Rows.{entries}
 use Rattle.sparse.specs.Tests.{clean}
-use Rattle.sparse.specs.declared.Tested.TheVariants.{Good}
 use Rattle.state.specs.Asks.{Opened}
 use Rattle.steps.specs.Rows.{CleanRow}
 use Rattle.accounts.specs.Account.{Account}
@@ -34,7 +33,7 @@ pub record RowChecks (p n : ℕ) (u_cols u_vals u_ptrs l_cols l_vals l_ptrs : Li
 -- clean rows with an answer each, U, L, and dense memory that is zero
 pub record Checks (a : Account) (dense : List ℕ) : Type 0 where
   pub positive : 0 < a.modulus
-  pub rows : clean 65536 a.modulus a.rows ≡ Good
+  pub rows : clean 65536 a.modulus a.rows ≡ Ok tt
   pub answers : length a.answers ≡ a.rows.nrows
   pub upper : Rows a.rows.ncols a.memory.u_cols a.memory.u_vals a.memory.u_ptrs
   pub pointers : 0 < length a.memory.u_ptrs

@@ -2,11 +2,10 @@
 use Rattle.std.specs.Prelude.{Bool, not, ◌||◌, cond, List, [], ◌∷◌, ℕ, ◌-◌, eqb, leb, length}
 use Rattle.lists.specs.Find.{any}
 use Rattle.sparse.specs.Matrix.{Matrix, row}
-use Rattle.sparse.specs.Refusals.{refuse}
+use Rattle.sparse.specs.Refusals.{refuse, Tested}
 use Rattle.sparse.specs.Rows.{Entry, entries}
 use Rattle.sparse.specs.Tests.{modulus_test, size_test, clean}
 use Rattle.sparse.specs.declared.Refusal.TheVariants.{Shape}
-use Rattle.sparse.specs.declared.Tested.{Tested}
 use Rattle.steps.specs.History.{at_once}
 use Rattle.telling.specs.Answers.{none}
 use Rattle.accounts.specs.Account.{Account, u_whole, l_count, accepted_in, used_in, row_fault}

@@ -1,8 +1,7 @@
 // The account check.
-ghost use Rattle.std.specs.Prelude.{◌≡◌};
+ghost use Rattle.std.specs.Prelude.{◌≡◌, Ok};
 ghost use Rattle.sparse.specs.Lent.{outcome};
 ghost use Rattle.sparse.specs.Matrix.{matrix};
-ghost use Rattle.sparse.specs.declared.Tested.TheVariants.{Good};
 ghost use Rattle.state.specs.Memory.{memory};
 ghost use Rattle.state.specs.State.{u_fault};
 ghost use Rattle.steps.specs.History.{at_once};
@@ -11,13 +10,12 @@ ghost use Rattle.accounts.specs.Account.{account, account_fault};
 ghost use Rattle.accounts.specs.Tests.{account_test};
 ghost use Rattle.judging.specs.Asks.{upper};
 ghost use Rattle.checking.specs.Asks.{Whole};
-ghost use Rattle.checking.specs.Check.{verdict, check_account};
+ghost use Rattle.checking.specs.Check.{check_account};
 
-use crate::Verdict;
 use crate::rows::rows_fault;
 use crate::tests::account_test;
-use sparse::Tested;
-use state::inside::{is_refused, state_test};
+use sparse::Refusal;
+use state::inside::state_test;
 use state::{Counts, Mode};
 use walk::kernels::wipe;
 
@@ -39,31 +37,18 @@ pub fn check_account(
     l_ptrs: &[usize],
     pivots: &[u32],
     dense: &mut [u32],
-) -> Verdict
+) -> Result<bool, Refusal>
     ensures { outcome result dense.new ≡ check_account (account p (matrix nrows ncols row_ptrs.now col_idcs.now values.now) answers.now (memory u_cols.now u_vals.now u_ptrs.now l_cols.now l_vals.now l_ptrs.now pivots.now)) dense.old }
 {
-    let tested = account_test(
+    account_test(
         p, nrows, ncols, row_ptrs, col_idcs, values, answers, u_cols, u_vals, u_ptrs, l_cols,
         l_vals, l_ptrs, pivots, dense,
-    );
-    if let Tested::Refused(why) = tested {
-        return Verdict::Refused(why);
-    }
+    )?;
     let fault = account_fault(
         p, nrows, ncols, row_ptrs, col_idcs, values, answers, u_cols, u_vals, u_ptrs, l_cols,
         l_vals, l_ptrs, pivots, dense,
     );
-    verdict_of(fault)
-}
-
-// No where there is a fault.
-fn verdict_of(fault: bool) -> Verdict
-    ensures { result ≡ verdict fault }
-{
-    if fault {
-        return Verdict::No;
-    }
-    Verdict::Yes
+    Ok(!fault)
 }
 
 // Whether an account that passes the tests is at fault. Dense memory may hold anything, so it is
@@ -85,7 +70,7 @@ fn account_fault(
     pivots: &[u32],
     dense: &mut [u32],
 ) -> bool
-    requires { account_test dense.old (account p (matrix nrows ncols row_ptrs.now col_idcs.now values.now) answers.now (memory u_cols.now u_vals.now u_ptrs.now l_cols.now l_vals.now l_ptrs.now pivots.now)) ≡ Good }
+    requires { account_test dense.old (account p (matrix nrows ncols row_ptrs.now col_idcs.now values.now) answers.now (memory u_cols.now u_vals.now u_ptrs.now l_cols.now l_vals.now l_ptrs.now pivots.now)) ≡ Ok tt }
     ensures { outcome result dense.new ≡ outcome (account_fault at_once (account p (matrix nrows ncols row_ptrs.now col_idcs.now values.now) answers.now (memory u_cols.now u_vals.now u_ptrs.now l_cols.now l_vals.now l_ptrs.now pivots.now))) (cleared ncols dense.old) }
 {
     let front = &mut dense[..ncols as usize];
@@ -120,7 +105,8 @@ fn u_unsound(
         l_rows: 0,
         l_fill: 0,
     };
-    is_refused(state_test(
+    let state = state_test(
         counts, u_cols, u_vals, u_ptrs, u_cols, u_vals, u_ptrs, pivots,
-    ))
+    );
+    state.is_err()
 }

@@ -6,12 +6,3 @@ pub mod rows;
 mod tests;
 
 pub use calls::check_account;
-use sparse::Refusal;
-
-// What the account check answers.
-#[derive(Clone, Copy)]
-pub enum Verdict {
-    Yes,
-    No,
-    Refused(Refusal),
-}

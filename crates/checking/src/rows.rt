@@ -69,10 +69,9 @@ pub fn rows_fault(
     ensures { outcome result dense.new ≡ outcome (rows_fault (account p (matrix nrows ncols row_ptrs.now col_idcs.now values.now) answers.now (memory u_cols.now u_vals.now u_ptrs.now l_cols.now l_vals.now l_ptrs.now pivots.now))) dense.old }
 {
     let rank = u_ptrs.len() - 1;
-    let mut i = 0;
     let mut accepted = 0;
     let mut used = 0;
-    while i < nrows as usize {
+    for i in 0..nrows as usize {
         let start = row_ptrs[i];
         let stop = row_ptrs[i + 1];
         let answer = answers[i];
@@ -87,7 +86,6 @@ pub fn rows_fault(
         }
         used += one_if(!is_at_once(ncols, earlier, stop - start));
         accepted += one_if(answer != NONE);
-        i += 1;
     }
     if accepted != rank {
         return true;

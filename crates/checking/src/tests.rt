@@ -10,17 +10,17 @@ ghost use Rattle.checking.specs.Rows.{rows_tests};
 
 use adding::inside::short_test;
 use sparse::inside::{modulus_test, size_test};
-use sparse::{MAX_ENTRIES, Refusal, Tested, try_from_csr_clean};
+use sparse::{MAX_ENTRIES, Refusal, try_from_csr_clean};
 use state::multipliers::is_crooked;
 
 // 3 of the answers: one per row.
-fn answers_test(nrows: u32, answers: &[u32]) -> Tested
+fn answers_test(nrows: u32, answers: &[u32]) -> Result<(), Refusal>
     ensures { result ≡ refuse (not (eqb (length answers.now) nrows)) Shape }
 {
     if answers.len() != nrows as usize {
-        return Tested::Refused(Refusal::Shape);
+        return Err(Refusal::Shape);
     }
-    Tested::Good
+    Ok(())
 }
 
 // 1 and 2 of the rows, 3 of the answers, 1 to 7 of the rows.
@@ -32,21 +32,12 @@ fn rows_test(
     col_idcs: &[u32],
     values: &[u32],
     answers: &[u32],
-) -> Tested
+) -> Result<(), Refusal>
     ensures { result ≡ lowest (rows_tests p (matrix nrows ncols row_ptrs.now col_idcs.now values.now) answers.now) }
 {
-    let modulus = modulus_test(p);
-    if let Tested::Refused(why) = modulus {
-        return Tested::Refused(why);
-    }
-    let size = size_test(MAX_ENTRIES, nrows, ncols, values.len());
-    if let Tested::Refused(why) = size {
-        return Tested::Refused(why);
-    }
-    let each = answers_test(nrows, answers);
-    if let Tested::Refused(why) = each {
-        return Tested::Refused(why);
-    }
+    modulus_test(p)?;
+    size_test(MAX_ENTRIES, nrows, ncols, values.len())?;
+    answers_test(nrows, answers)?;
     try_from_csr_clean(p, nrows, ncols, row_ptrs, col_idcs, values)
 }
 
@@ -71,16 +62,16 @@ fn slices_test(
     l_cols: &[u32],
     l_vals: &[u32],
     l_ptrs: &[usize],
-) -> Tested
+) -> Result<(), Refusal>
     ensures { result ≡ refuse (broken u_cols.now u_vals.now u_ptrs.now || broken l_cols.now l_vals.now l_ptrs.now) State }
 {
     if is_broken(u_cols, u_vals, u_ptrs) {
-        return Tested::Refused(Refusal::State);
+        return Err(Refusal::State);
     }
     if is_broken(l_cols, l_vals, l_ptrs) {
-        return Tested::Refused(Refusal::State);
+        return Err(Refusal::State);
     }
-    Tested::Good
+    Ok(())
 }
 
 // 1 to 7 of the rows and their answers, 11, and 13.
@@ -100,16 +91,10 @@ pub fn account_test(
     l_ptrs: &[usize],
     pivots: &[u32],
     dense: &[u32],
-) -> Tested
+) -> Result<(), Refusal>
     ensures { result ≡ account_test dense.now (account p (matrix nrows ncols row_ptrs.now col_idcs.now values.now) answers.now (memory u_cols.now u_vals.now u_ptrs.now l_cols.now l_vals.now l_ptrs.now pivots.now)) }
 {
-    let rows = rows_test(p, nrows, ncols, row_ptrs, col_idcs, values, answers);
-    if let Tested::Refused(why) = rows {
-        return Tested::Refused(why);
-    }
-    let short = short_test(ncols, dense, pivots);
-    if let Tested::Refused(why) = short {
-        return Tested::Refused(why);
-    }
+    rows_test(p, nrows, ncols, row_ptrs, col_idcs, values, answers)?;
+    short_test(ncols, dense, pivots)?;
     slices_test(u_cols, u_vals, u_ptrs, l_cols, l_vals, l_ptrs)
 }

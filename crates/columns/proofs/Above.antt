@@ -10,7 +10,6 @@ use lib.Dec.{leb}
 use lib.ListN.{length, get_or}
 use borrow.Author.Tests.{le-leb, lt-leb}
 use Rattle.lists.specs.Find.{count}
-use Rattle.columns.specs.Asks.{NotFalling}
 
 module _ {ℓ} {A : Type ℓ} (f : A → Bool) (d : A) where
   -- the first n pass
@@ -53,33 +52,6 @@ pub record Between (xs : List ℕ) (c low high : ℕ) : Type 0 where
   pub within : high ≤ length xs
   pub front : (k : ℕ) → k < low → get_or xs k 0 ≤ c
   pub back : (k : ℕ) → high ≤ k → k < length xs → c < get_or xs k 0
-
-pub between_all : (xs : List ℕ) (c : ℕ) → Between xs c 0 (length xs)
-between_all xs c = record {
-  rises = omega arith;
-  within = omega arith;
-  front = λ k h. absurd (not-suc-le-zero h);
-  back = λ k h l. absurd (omega arith);
-}
-
-module _ {xs : List ℕ} {c low high : ℕ} (sorted : NotFalling xs) (b : Between xs c low high) (middle : ℕ) where
-  -- what stands at the middle is not above c, nor is anything before it
-  pub between_up : low ≤ middle → middle < high → get_or xs middle 0 ≤ c → Between xs c (middle + 1) high
-  between_up h l e = record {
-    rises = omega arith;
-    within = b.within;
-    front = λ k g. omega (arith, sorted.order k middle (omega arith) (omega (arith, b.within)));
-    back = b.back;
-  }
-
-  -- it is above c, and so is all after it
-  pub between_down : low ≤ middle → middle < high → c < get_or xs middle 0 → Between xs c low middle
-  between_down h l e = record {
-    rises = h;
-    within = omega (arith, b.within);
-    front = b.front;
-    back = λ k g m. omega (arith, sorted.order middle k g m);
-  }
 
 -- the seam is found: as many are not above c
 pub between_met : {xs : List ℕ} {c low high : ℕ} → Between xs c low high → high ≤ low → low ≡ count (λ q. leb q c) xs

@@ -1,5 +1,6 @@
 -- What inserting columns does: old columns keep their order and their values, the new ones are exactly those that no old
 -- column moves to and hold 0, and a well formed matrix stays well formed. Assumes nothing.
+use Rattle.std.specs.Prelude.{Ok}
 use mathlib.Core.Path.{◌≡◌, refl, sym, ap, ◌∙◌}
 use mathlib.Core.Logic.{◌⊎◌, inl, inr}
 use mathlib.Core.Bool.{cond, ◌||◌}
@@ -21,13 +22,11 @@ use Rattle.sparse.specs.Matrix.{Matrix, matrix, part, row, value_in, value_at}
 use Rattle.sparse.specs.Refusals.{refuse, ◌else◌, lowest, first_of}
 use Rattle.sparse.specs.Tests.{modulus_test, size_test, shape_test, column_test, columns_test, row_test, rows_test, value_test, values_test, rows_values_test, matrix_test, well_formed}
 use Rattle.sparse.specs.declared.Refusal.TheVariants.{Pointer}
-use Rattle.sparse.specs.declared.Tested.TheVariants.{Good}
 use Rattle.sparse.proofs.Firsts.{lowest_skip, lowest_last, else_good, each_good, all_good}
 use Rattle.meaning.proofs.RowColumns.{map-part, climbs_good, row_climbs}
 use Rattle.meaning.proofs.Values.{Climbs, value_elsewhere}
 use Rattle.columns.specs.Asks.{NotFalling}
 use Rattle.columns.specs.Positions.{in_order, position_test, positions_test, moved, add_cols_test, add_cols}
-use Rattle.columns.specs.declared.Widened.TheVariants.{Columns}
 use Rattle.columns.proofs.Above.{count_front, count_back, count_wider}
 use Rattle.columns.proofs.Passed.{Insertable}
 
@@ -166,11 +165,11 @@ climbs_moved n ps cols c = record { below = low; rises = up }
 
 -- a well formed matrix stays well formed
 module _ {p : ℕ} {m : Matrix} {ps : List ℕ} (ok : Insertable p m ps) where
-  shape : shape_test (widened m ps) ≡ Good
+  shape : shape_test (widened m ps) ≡ Ok tt
   unfolding shape_test
   shape = rw length-map ok.shape
 
-  row_good : (i : ℕ) → i < m.nrows → row_test (m.ncols + length ps) (map (moved ps) m.col_idcs) (get_or m.row_ptrs i 0) (get_or m.row_ptrs (i + 1) 0) ≡ Good
+  row_good : (i : ℕ) → i < m.nrows → row_test (m.ncols + length ps) (map (moved ps) m.col_idcs) (get_or m.row_ptrs i 0) (get_or m.row_ptrs (i + 1) 0) ≡ Ok tt
   unfolding rows_test row_test row ◌else◌
   row_good i h =
       let a : ℕ = get_or m.row_ptrs i 0 in
@@ -178,11 +177,11 @@ module _ {p : ℕ} {m : Matrix} {ps : List ℕ} (ok : Insertable p m ps) where
       let old_row = else_good (refuse (ltb b a || ltb (length m.col_idcs) b) Pointer) (columns_test m.ncols (part a b m.col_idcs)) (each_good m.nrows _ ok.rows i h) in
       rw (length-map, old_row.0, map-part) (climbs_good _ _ (climbs_moved m.ncols ps _ (row_climbs m ok.rows i h)))
 
-  rows : rows_test m.nrows (m.ncols + length ps) m.row_ptrs (map (moved ps) m.col_idcs) ≡ Good
+  rows : rows_test m.nrows (m.ncols + length ps) m.row_ptrs (map (moved ps) m.col_idcs) ≡ Ok tt
   unfolding rows_test
   rows = all_good m.nrows _ row_good
 
-  pub still_formed : well_formed 65536 p (widened m ps) ≡ Good
+  pub still_formed : well_formed 65536 p (widened m ps) ≡ Ok tt
   unfolding well_formed matrix_test
   still_formed =
       lowest_skip _ ok.modulus
@@ -194,6 +193,6 @@ module _ {p : ℕ} {m : Matrix} {ps : List ℕ} (ok : Insertable p m ps) where
       ∙ ok.residues
 
 -- N10: three columns, positions 0 and 3: column 2 becomes 3, five columns
-pub n10 : add_cols 7 (matrix 1 3 (0 ∷ 1 ∷ []) (2 ∷ []) (1 ∷ [])) (0 ∷ 3 ∷ []) ≡ outcome (Columns 5) (3 ∷ [])
+pub n10 : add_cols 7 (matrix 1 3 (0 ∷ 1 ∷ []) (2 ∷ []) (1 ∷ [])) (0 ∷ 3 ∷ []) ≡ outcome (Ok 5) (3 ∷ [])
 unfolding add_cols unless add_cols_test lowest ◌else◌ modulus_test refuse is_modulus is_prime any largest size_test matrix_test shape_test rows_test row_test columns_test column_test rows_values_test values_test value_test first_of part row positions_test position_test in_order moved count
 n10 = refl

@@ -1,5 +1,6 @@
 -- What good tests leave for inserting columns: few new ones, positions that don't fall, columns within the limit.
 -- Assumes nothing.
+use Rattle.std.specs.Prelude.{Ok}
 use mathlib.Core.Path.{◌≡◌}
 use mathlib.Core.Bool.{not, ◌&&◌}
 use mathlib.Core.List.{List}
@@ -11,7 +12,6 @@ use lib.ListN.{length, get_or}
 use borrow.Author.Tests.{lt-ltb, ltb-true, ltb-false, not-false}
 use Rattle.sparse.specs.Matrix.{Matrix}
 use Rattle.sparse.specs.Tests.{modulus_test, size_test, shape_test, rows_test, rows_values_test, matrix_test}
-use Rattle.sparse.specs.declared.Tested.TheVariants.{Good}
 use Rattle.sparse.specs.declared.inside.Clause.TheVariants.{Residue}
 use Rattle.sparse.proofs.Cuts.{laid}
 use Rattle.sparse.proofs.Firsts.{refuse_good, neither, lowest_good, each_good}
@@ -20,14 +20,14 @@ use Rattle.columns.specs.Asks.{NotFalling, Movable}
 use Rattle.columns.specs.Positions.{in_order, position_test, positions_test, add_cols_test}
 
 -- 2 finds nothing
-pub few_cols : (limit rows cols entries : ℕ) → size_test limit rows cols entries ≡ Good → cols ≤ 1024
+pub few_cols : (limit rows cols entries : ℕ) → size_test limit rows cols entries ≡ Ok tt → cols ≤ 1024
 unfolding size_test
 few_cols limit rows cols entries e =
     let h = neither _ _ (refuse_good _ _ e) in
     ltb-false 1024 cols (neither (ltb 1024 rows) (ltb 1024 cols) h.0).1
 
 -- 12 finds nothing: neighbours don't fall
-position_step : (n : ℕ) (ps : List ℕ) (k : ℕ) → position_test n ps (suc k) ≡ Good → get_or ps k 0 ≤ get_or ps (suc k) 0
+position_step : (n : ℕ) (ps : List ℕ) (k : ℕ) → position_test n ps (suc k) ≡ Ok tt → get_or ps k 0 ≤ get_or ps (suc k) 0
 unfolding position_test in_order
 position_step n ps k e =
     let one_back : suc k - 1 ≡ k = omega arith in
@@ -36,7 +36,7 @@ position_step n ps k e =
     let g : get_or ps k 0 < get_or ps (suc k) 0 = rw one_back at l in
     omega arith
 
-pub not_falling : (n : ℕ) (ps : List ℕ) → positions_test n ps ≡ Good → NotFalling ps
+pub not_falling : (n : ℕ) (ps : List ℕ) → positions_test n ps ≡ Ok tt → NotFalling ps
 unfolding positions_test
 not_falling n ps e = record { order = up }
   where
@@ -49,7 +49,7 @@ not_falling n ps e = record { order = up }
         go (no b) ih = omega (arith, ih (omega arith) (omega arith), position_step n ps j (each_good (length ps) (position_test n ps) e (suc j) h))
 
 -- and none is above the column count
-pub position_low : (n : ℕ) (ps : List ℕ) → positions_test n ps ≡ Good → (k : ℕ) → k < length ps → get_or ps k 0 ≤ n
+pub position_low : (n : ℕ) (ps : List ℕ) → positions_test n ps ≡ Ok tt → (k : ℕ) → k < length ps → get_or ps k 0 ≤ n
 unfolding positions_test position_test
 position_low n ps e k h =
     ltb-false n (get_or ps k 0)
@@ -57,15 +57,15 @@ position_low n ps e k h =
 
 -- all tests of `add_cols` find nothing
 pub record Insertable (p : ℕ) (m : Matrix) (ps : List ℕ) : Type 0 where
-  pub modulus : modulus_test p ≡ Good
-  pub size : size_test 65536 m.nrows m.ncols (length m.values) ≡ Good
-  pub wider : size_test 65536 m.nrows (m.ncols + length ps) (length m.values) ≡ Good
-  pub shape : shape_test m ≡ Good
-  pub rows : rows_test m.nrows m.ncols m.row_ptrs m.col_idcs ≡ Good
-  pub residues : rows_values_test Residue p m.nrows m.row_ptrs m.values ≡ Good
-  pub places : positions_test m.ncols ps ≡ Good
+  pub modulus : modulus_test p ≡ Ok tt
+  pub size : size_test 65536 m.nrows m.ncols (length m.values) ≡ Ok tt
+  pub wider : size_test 65536 m.nrows (m.ncols + length ps) (length m.values) ≡ Ok tt
+  pub shape : shape_test m ≡ Ok tt
+  pub rows : rows_test m.nrows m.ncols m.row_ptrs m.col_idcs ≡ Ok tt
+  pub residues : rows_values_test Residue p m.nrows m.row_ptrs m.values ≡ Ok tt
+  pub places : positions_test m.ncols ps ≡ Ok tt
 
-pub insertable : (p : ℕ) (m : Matrix) (ps : List ℕ) → add_cols_test p m ps ≡ Good → Insertable p m ps
+pub insertable : (p : ℕ) (m : Matrix) (ps : List ℕ) → add_cols_test p m ps ≡ Ok tt → Insertable p m ps
 unfolding add_cols_test matrix_test
 insertable p m ps e =
     let a = lowest_good _ _ e in

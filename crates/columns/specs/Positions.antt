@@ -1,14 +1,16 @@
 -- Inserting columns: position q puts a new column before old column q.
-use Rattle.std.specs.Prelude.{ℕ, ◌+◌, ◌-◌, Bool, not, ◌&&◌, ◌||◌, List, [], ◌∷◌, map, leb, ltb, length, get_or}
+use Rattle.std.specs.Prelude.{ℕ, ◌+◌, ◌-◌, Bool, not, ◌&&◌, ◌||◌, List, [], ◌∷◌, map, leb, ltb, length, get_or, Err, Ok, Result}
 use Rattle.lists.specs.Find.{count}
 use Rattle.sparse.specs.Lent.{Outcome, outcome, unless}
 use Rattle.sparse.specs.Matrix.{Matrix}
-use Rattle.sparse.specs.Refusals.{refuse, lowest, first_of}
+use Rattle.sparse.specs.Refusals.{refuse, lowest, first_of, Tested}
 use Rattle.sparse.specs.Tests.{modulus_test, size_test, matrix_test}
 use Rattle.sparse.specs.declared.Refusal.TheVariants.{Positions}
-use Rattle.sparse.specs.declared.Tested.{Tested}
-use Rattle.columns.specs.declared.Widened.{Widened}
-use Rattle.columns.specs.declared.Widened.TheVariants.{Columns, Refused as Unmoved}
+use Rattle.sparse.specs.declared.Refusal.{Refusal}
+
+-- how many columns there are then, or a refusal
+abbrev pub Widened : Type 0
+Widened = Result ℕ Refusal
 
 -- the rule for two neighbouring positions: they rise strictly
 unfoldable pub in_order : ℕ → ℕ → Bool
@@ -39,5 +41,5 @@ add_cols_test p m positions =
 -- the columns in place, and the new column count
 unfoldable pub add_cols : ℕ → Matrix → List ℕ → Outcome Widened (List ℕ)
 add_cols p m positions =
-    unless Unmoved (add_cols_test p m positions) m.col_idcs
-    (outcome (Columns (m.ncols + length positions)) (map (moved positions) m.col_idcs))
+    unless Err (add_cols_test p m positions) m.col_idcs
+    (outcome (Ok (m.ncols + length positions)) (map (moved positions) m.col_idcs))

@@ -7,9 +7,8 @@ ghost use Rattle.sparse.specs.Tests.{size_test};
 ghost use Rattle.columns.specs.Asks.{NotFalling, Movable};
 ghost use Rattle.columns.specs.Positions.{position_test, positions_test, moved, add_cols_test, add_cols};
 
-use crate::Widened;
 use sparse::inside::{matrix_test, modulus_test, size_test};
-use sparse::{MAX_ENTRIES, MAX_SIDE, Refusal, Tested};
+use sparse::{MAX_ENTRIES, MAX_SIDE, Refusal};
 
 // Moves the stored columns in place, and answers the new column count; or the lowest of 1 to 6 and
 // 12 that applies, and the columns as they came.
@@ -21,15 +20,12 @@ pub fn add_cols(
     col_idcs: &mut [u32],
     values: &[u32],
     positions: &[u32],
-) -> Widened
+) -> Result<u32, Refusal>
     ensures { outcome result col_idcs.new ≡ add_cols p (matrix nrows ncols row_ptrs.now col_idcs.old values.now) positions.now }
 {
-    let found = add_cols_test(p, nrows, ncols, row_ptrs, col_idcs, values, positions);
-    if let Tested::Refused(why) = found {
-        return Widened::Refused(why);
-    }
+    add_cols_test(p, nrows, ncols, row_ptrs, col_idcs, values, positions)?;
     move_columns(positions, col_idcs);
-    Widened::Columns(ncols + positions.len() as u32)
+    Ok(ncols + positions.len() as u32)
 }
 
 // 1 to 6, 2 for the widened matrix too, and 12.
@@ -41,70 +37,53 @@ fn add_cols_test(
     col_idcs: &[u32],
     values: &[u32],
     positions: &[u32],
-) -> Tested
+) -> Result<(), Refusal>
     ensures { result ≡ add_cols_test p (matrix nrows ncols row_ptrs.now col_idcs.now values.now) positions.now }
 {
-    let modulus = modulus_test(p);
-    if let Tested::Refused(why) = modulus {
-        return Tested::Refused(why);
-    }
-    let size = size_test(MAX_ENTRIES, nrows, ncols, values.len());
-    if let Tested::Refused(why) = size {
-        return Tested::Refused(why);
-    }
-    let wider = wider_test(nrows, ncols, values.len(), positions.len());
-    if let Tested::Refused(why) = wider {
-        return Tested::Refused(why);
-    }
-    let form = matrix_test(p, nrows, ncols, row_ptrs, col_idcs, values);
-    if let Tested::Refused(why) = form {
-        return Tested::Refused(why);
-    }
+    modulus_test(p)?;
+    size_test(MAX_ENTRIES, nrows, ncols, values.len())?;
+    wider_test(nrows, ncols, values.len(), positions.len())?;
+    matrix_test(p, nrows, ncols, row_ptrs, col_idcs, values)?;
     positions_test(ncols, positions)
 }
 
 // 2 with so many more columns. Their number may be as long as a slice: the sum waits for its limit.
-pub fn wider_test(nrows: u32, ncols: u32, entries: usize, more: usize) -> Tested
+pub fn wider_test(nrows: u32, ncols: u32, entries: usize, more: usize) -> Result<(), Refusal>
     requires { ncols ≤ 1024 }
     ensures { result ≡ size_test 65536 nrows (ncols + more) entries }
 {
     if more > MAX_SIDE as usize {
-        return Tested::Refused(Refusal::Size);
+        return Err(Refusal::Size);
     }
     size_test(MAX_ENTRIES, nrows, ncols + more as u32, entries)
 }
 
 // 12 at position k: not above the column count, and in order with the one before.
-fn position_test(ncols: u32, positions: &[u32], k: usize) -> Tested
+fn position_test(ncols: u32, positions: &[u32], k: usize) -> Result<(), Refusal>
     requires { k < length positions.now }
     ensures { result ≡ position_test ncols positions.now k }
 {
     let position = positions[k];
     if position > ncols {
-        return Tested::Refused(Refusal::Positions);
+        return Err(Refusal::Positions);
     }
     if k == 0 {
-        return Tested::Good;
+        return Ok(());
     }
     if position <= positions[k - 1] {
-        return Tested::Refused(Refusal::Positions);
+        return Err(Refusal::Positions);
     }
-    Tested::Good
+    Ok(())
 }
 
 // 12 of all positions.
-pub fn positions_test(ncols: u32, positions: &[u32]) -> Tested
+pub fn positions_test(ncols: u32, positions: &[u32]) -> Result<(), Refusal>
     ensures { result ≡ positions_test ncols positions.now }
 {
-    let mut k = 0;
-    while k < positions.len() {
-        let found = position_test(ncols, positions, k);
-        if let Tested::Refused(why) = found {
-            return Tested::Refused(why);
-        }
-        k += 1;
+    for k in 0..positions.len() {
+        position_test(ncols, positions, k)?;
     }
-    Tested::Good
+    Ok(())
 }
 
 // How many positions are not above a column, by binary search.
@@ -112,17 +91,7 @@ pub fn not_above(positions: &[u32], col: u32) -> usize
     requires { NotFalling positions.now }
     ensures { result ≡ count (λ q. leb q col) positions.now }
 {
-    let mut low = 0;
-    let mut high = positions.len();
-    while low < high {
-        let middle = low + (high - low) / 2;
-        if positions[middle] <= col {
-            low = middle + 1;
-        } else {
-            high = middle;
-        }
-    }
-    low
+    positions.partition_point(|position| *position <= col)
 }
 
 // Moves each column up by the number of positions not above it.
@@ -130,11 +99,8 @@ pub fn move_columns(positions: &[u32], cols: &mut [u32])
     requires { Movable positions.now cols.old }
     ensures { cols.new ≡ map (moved positions.now) cols.old }
 {
-    let mut k = 0;
-    while k < cols.len() {
-        let col = cols[k];
-        let up = not_above(positions, col);
-        cols[k] = col + up as u32;
-        k += 1;
+    for col in cols.iter_mut() {
+        let up = not_above(positions, *col);
+        *col += up as u32;
     }
 }

@@ -1,5 +1,6 @@
 -- The determinant: what its tests give, what reading L asks for, and each outcome.
 -- Assumes nothing.
+use Rattle.std.specs.Prelude.{Err, Ok}
 use mathlib.Core.Path.{◌≡◌, sym, ap, subst, ◌∙◌}
 use mathlib.Core.Bool.{true, false, not, ◌||◌}
 use mathlib.Core.List.{List, []}
@@ -10,12 +11,10 @@ use lib.Dec.{ltb, eqb}
 use lib.ListN.{length}
 use Rattle.sparse.specs.Lent.{Outcome, outcome, unless}
 use Rattle.sparse.specs.Matrix.{Matrix}
-use Rattle.sparse.specs.Refusals.{refuse}
+use Rattle.sparse.specs.Refusals.{refuse, Tested}
 use Rattle.sparse.specs.Rows.{rows_of}
 use Rattle.sparse.specs.declared.Refusal.{Refusal}
 use Rattle.sparse.specs.declared.Refusal.TheVariants.{NotSquare, Mismatch}
-use Rattle.sparse.specs.declared.Tested.{Tested}
-use Rattle.sparse.specs.declared.Tested.TheVariants.{Good, Refused as Unfit}
 use Rattle.sparse.proofs.Firsts.{neither, refuse_good, lowest_good}
 use Rattle.state.specs.Fresh.{counts}
 use Rattle.state.specs.Memory.{Memory}
@@ -43,24 +42,24 @@ use Rattle.determinant.specs.declared.Determined.TheVariants.{Refused}
 use Rattle.determinant.proofs.Fulls.{full_multiplies}
 
 -- 10, or not
-pub not_square : (n m : ℕ) → (n ≡ m → ⊥) → Unfit NotSquare ≡ refuse (not (eqb n m)) NotSquare
+pub not_square : (n m : ℕ) → (n ≡ m → ⊥) → Err NotSquare ≡ refuse (not (eqb n m)) NotSquare
 unfolding refuse
 not_square n m e = rw (ne_eqb n m e)
 
-pub square : (n m : ℕ) → n ≡ m → Good ≡ refuse (not (eqb n m)) NotSquare
+pub square : (n m : ℕ) → n ≡ m → Ok tt ≡ refuse (not (eqb n m)) NotSquare
 unfolding refuse
 square n m e = rw (eq-eqb n m e)
 
 -- 11, or not
-pub dense_short : (d t n : ℕ) → d < n → Unfit Mismatch ≡ refuse (ltb d n || ltb t n) Mismatch
+pub dense_short : (d t n : ℕ) → d < n → Err Mismatch ≡ refuse (ltb d n || ltb t n) Mismatch
 unfolding refuse
 dense_short d t n h = rw (lt-ltb d n h)
 
-pub table_short : (d t n : ℕ) → n ≤ d → t < n → Unfit Mismatch ≡ refuse (ltb d n || ltb t n) Mismatch
+pub table_short : (d t n : ℕ) → n ≤ d → t < n → Err Mismatch ≡ refuse (ltb d n || ltb t n) Mismatch
 unfolding refuse
 table_short d t n h l = rw (le-ltb d n h, lt-ltb t n l)
 
-pub both_long : (d t n : ℕ) → n ≤ d → n ≤ t → Good ≡ refuse (ltb d n || ltb t n) Mismatch
+pub both_long : (d t n : ℕ) → n ≤ d → n ≤ t → Ok tt ≡ refuse (ltb d n || ltb t n) Mismatch
 unfolding refuse
 both_long d t n h l = rw (le-ltb d n h, le-ltb t n l)
 
@@ -80,7 +79,7 @@ module _ (p : ℕ) (a : Matrix) (o : Lists) where
   abbrev c : Counts
   c = counts Full p a.ncols 0 0 0 0
 
-  pub det_anew : test ≡ Good → Anew p Full a w
+  pub det_anew : test ≡ Ok tt → Anew p Full a w
   unfolding det_test
   det_anew e =
       let first = lowest_good _ _ e in
@@ -90,11 +89,11 @@ module _ (p : ℕ) (a : Matrix) (o : Lists) where
       record { rows = first.0; long = ltb-false _ _ long.0; table = ltb-false _ _ long.1; room = (lowest_good _ _ third.1).0 }
 
   module _ {s : Tested} (tested : s ≡ test) where
-    pub det_refused : {why : Refusal} → s ≡ Unfit why → outcome (Refused why) o ≡ det p a o
+    pub det_refused : {why : Refusal} → s ≡ Err why → outcome (Refused why) o ≡ det p a o
     unfolding det unless
     det_refused e = rw (sym tested ∙ e)
 
-    module _ (good : s ≡ Good) {x : Reduced} {m : Memory} {answers d : List ℕ} (took : outcome x (night m answers d) ≡ take_anew false true p Full a w) where
+    module _ (good : s ≡ Ok tt) {x : Reduced} {m : Memory} {answers d : List ℕ} (took : outcome x (night m answers d) ≡ take_anew false true p Full a w) where
       taken : outcome x (written m answers) ≡ take_rows false true (rows_of a) (outcome (Taken (run 0 c)) (written (restarted Full a.ncols o.memory) []))
       unfolding take_anew take_matrix
       taken = ap (λ (y : Outcome Reduced Night). outcome y.answer (written y.memory.memory y.memory.answers)) took

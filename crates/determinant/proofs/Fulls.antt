@@ -1,5 +1,6 @@
 -- An L with values, in memory that is a state: where its rows lie, and that their last entries are residues.
 -- Assumes nothing.
+use Rattle.std.specs.Prelude.{is_err}
 use mathlib.Core.Path.{◌≡◌, refl, sym, subst}
 use mathlib.Core.Bool.{false}
 use mathlib.Core.List.{List, [], ◌∷◌}
@@ -16,7 +17,7 @@ use Rattle.sparse.proofs.Firsts.{neither}
 use Rattle.meaning.proofs.BuiltForm.{below_p}
 use Rattle.meaning.proofs.Parts.{length_part, get_d_part}
 use Rattle.state.specs.Memory.{places}
-use Rattle.state.specs.State.{is_refused, pattern_fault, values_fault, l_fault}
+use Rattle.state.specs.State.{pattern_fault, values_fault, l_fault}
 use Rattle.state.specs.declared.Counts.{Counts}
 use Rattle.state.specs.declared.Mode.TheVariants.{Full}
 use Rattle.state.proofs.Faults.{held, not_refused}
@@ -38,9 +39,9 @@ module _ (c : Counts) (cols vals ptrs : List ℕ) (least : 2 ≤ c.modulus) (sou
   pub full_level : Level c.rank c.l_rows c.l_fill cols ptrs
   full_level = fault_level c.rank c.l_rows c.l_fill cols ptrs both.0
 
-  first : (ltb (places vals) c.l_fill ≡ false) × (is_refused (values_test Residue c.modulus (take c.l_fill vals)) ≡ false)
+  first : (ltb (places vals) c.l_fill ≡ false) × (is_err (values_test Residue c.modulus (take c.l_fill vals)) ≡ false)
   unfolding values_fault
-  first = neither _ _ (neither _ (is_refused (values_test Nonzero c.modulus (take c.l_fill vals))) both.1).0
+  first = neither _ _ (neither _ (is_err (values_test Nonzero c.modulus (take c.l_fill vals))) both.1).0
 
   pub full_long : c.l_fill ≤ length vals
   unfolding places

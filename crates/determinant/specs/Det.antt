@@ -2,10 +2,9 @@
 use Rattle.std.specs.Prelude.{ℕ, true, false, not, ◌||◌, List, [], ◌∷◌, ltb, eqb, length}
 use Rattle.sparse.specs.Lent.{Outcome, outcome, unless}
 use Rattle.sparse.specs.Matrix.{Matrix}
-use Rattle.sparse.specs.Refusals.{refuse, lowest}
+use Rattle.sparse.specs.Refusals.{refuse, lowest, Tested}
 use Rattle.sparse.specs.Tests.{clean}
 use Rattle.sparse.specs.declared.Refusal.TheVariants.{NotSquare, Mismatch}
-use Rattle.sparse.specs.declared.Tested.{Tested}
 use Rattle.state.specs.Fresh.{start_test}
 use Rattle.state.specs.declared.Mode.TheVariants.{Full}
 use Rattle.stepping.specs.Take.{Lists, lists}

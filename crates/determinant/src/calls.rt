@@ -10,7 +10,7 @@ ghost use Rattle.determinant.specs.Det;
 use crate::{Determined, Valued};
 use batches::rows::take_anew;
 use signs::values::value_of;
-use sparse::{Refusal, Tested, try_from_csr_clean};
+use sparse::{Refusal, try_from_csr_clean};
 use state::Mode;
 use state::start::start_test;
 use telling::Reduced;
@@ -39,7 +39,7 @@ pub fn det(
     let tested = det_test(
         p, nrows, ncols, row_ptrs, col_idcs, values, dense, u_ptrs, l_ptrs, pivots,
     );
-    if let Tested::Refused(why) = tested {
+    if let Err(why) = tested {
         return Determined::Refused(why);
     }
     let mut told = [0; 1];
@@ -78,21 +78,18 @@ fn det_test(
     u_ptrs: &[usize],
     l_ptrs: &[usize],
     pivots: &[u32],
-) -> Tested
+) -> Result<(), Refusal>
     ensures { result ≡ Det.det_test p (matrix nrows ncols row_ptrs.now col_idcs.now values.now) dense.now u_ptrs.now l_ptrs.now pivots.now }
 {
-    let clean = try_from_csr_clean(p, nrows, ncols, row_ptrs, col_idcs, values);
-    if let Tested::Refused(why) = clean {
-        return Tested::Refused(why);
-    }
+    try_from_csr_clean(p, nrows, ncols, row_ptrs, col_idcs, values)?;
     if nrows != ncols {
-        return Tested::Refused(Refusal::NotSquare);
+        return Err(Refusal::NotSquare);
     }
     if dense.len() < ncols as usize {
-        return Tested::Refused(Refusal::Mismatch);
+        return Err(Refusal::Mismatch);
     }
     if pivots.len() < ncols as usize {
-        return Tested::Refused(Refusal::Mismatch);
+        return Err(Refusal::Mismatch);
     }
     start_test(Mode::Full, u_ptrs, l_ptrs)
 }

@@ -8,8 +8,7 @@ use Rattle.lists.proofs.Only.{only}
 use Rattle.sparse.specs.Lent.{Outcome}
 use Rattle.state.specs.declared.Counts.{Counts}
 use Rattle.stepping.specs.Take.{Lists}
-use Rattle.entering.specs.Enter.{enter_row}
-use Rattle.entering.specs.declared.Entered.{Entered}
+use Rattle.entering.specs.Enter.{enter_row, Entered}
 
 pub add_row_only : (c : Counts) (cols vals : List ℕ) (o : Lists) {s t : Outcome Entered Lists} → s ≡ enter_row false c cols vals o → t ≡ enter_row false c cols vals o → s ≡ t
 add_row_only c cols vals o = only

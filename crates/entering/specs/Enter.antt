@@ -1,30 +1,28 @@
 -- The calls that add one row, in either walk, the record of counts changed in place.
-use Rattle.std.specs.Prelude.{ℕ, Bool, List}
+use Rattle.std.specs.Prelude.{ℕ, Bool, List, Ok, Err, Result}
 use Rattle.sparse.specs.Lent.{Outcome, outcome}
+use Rattle.sparse.specs.declared.Refusal.{Refusal}
 use Rattle.state.specs.declared.Counts.{Counts}
-use Rattle.walk.specs.declared.Answer.{Answer}
-use Rattle.walk.specs.declared.Answer.TheVariants.{Accepted, None}
+use Rattle.walk.specs.Step.{Answer}
 use Rattle.stepping.specs.Take.{Lists}
-use Rattle.adding.specs.AddRow.{add_row}
-use Rattle.adding.specs.declared.Added.{Added}
-use Rattle.adding.specs.declared.Added.TheVariants.{Answered, Refused}
-use Rattle.entering.specs.declared.Entered.{Entered}
-use Rattle.entering.specs.declared.Told.{Told}
-use Rattle.entering.specs.declared.Told.TheVariants as T
+use Rattle.adding.specs.AddRow.{add_row, Added}
 
--- the counts afterwards, and the answer
+-- what a row came to: its answer, or a refusal
+abbrev pub Told : Type 0
+Told = Result Answer Refusal
+
+-- the counts afterwards, and what the row came to
+pub record Entered : Type 0 where
+  pub counts : Counts
+  pub told : Told
+
 abbrev pub entered : Counts → Told → Entered
 entered c t = record { counts = c; told = t }
 
--- a row's answer
-unfoldable pub told_of : Answer → Told
-told_of (Accepted g) = T.Accepted g
-told_of None = T.None
-
 -- the counts of the step, or the counts as they came where the row is refused
 unfoldable pub entered_of : Counts → Added → Entered
-entered_of c (Answered s) = entered s.counts (told_of s.answer)
-entered_of c (Refused why) = entered c (T.Refused why)
+entered_of c (Ok s) = entered s.counts (Ok s.answer)
+entered_of c (Err why) = entered c (Err why)
 
 -- a row added: the lists afterwards are those of the step by value
 unfoldable pub enter_row : Bool → Counts → List ℕ → List ℕ → Lists → Outcome Entered Lists

@@ -8,31 +8,15 @@ ghost use Rattle.std.specs.Prelude.{◌≡◌, true, false};
 ghost use Rattle.sparse.specs.Lent.{outcome};
 ghost use Rattle.state.specs.Memory.{memory};
 ghost use Rattle.stepping.specs.Take.{lists};
-ghost use Rattle.entering.specs.Enter.{entered, enter_row};
-
-mod step;
+ghost use Rattle.entering.specs.Enter.{entered, entered_of, enter_row};
 
 use sparse::Refusal;
 use state::Counts;
-use step::{enter, enter_with_back_subs};
+use stepping::Stepped;
 
-// What a row came to: accepted at this column, none, or refused.
-#[derive(Clone, Copy)]
-pub enum Told {
-    Accepted(u32),
-    None,
-    Refused(Refusal),
-}
-
-// What a row came to, and the counts afterwards.
-#[derive(Clone, Copy)]
-pub struct Entered {
-    pub counts: Counts,
-    pub told: Told,
-}
-
-// Takes a row, stopping at the first nonzero entry with no pivot, and keeps the counts; or the lowest of
-// 1, 2, 3, 5, 6, 7, 11, 13 and 14 that applies, and everything lent, the counts with it, as it came.
+// Takes a row, stopping at the first nonzero entry with no pivot, keeps the counts and answers the column
+// where the row was accepted, or None; or the lowest of 1, 2, 3, 5, 6, 7, 11, 13 and 14 that applies, and
+// everything lent, the counts with it, as it came.
 pub fn add_row(
     counts: &mut Counts,
     cols: &[u32],
@@ -45,14 +29,13 @@ pub fn add_row(
     l_vals: &mut [u32],
     l_ptrs: &mut [usize],
     pivots: &mut [u32],
-) -> Told
+) -> Result<Option<u32>, Refusal>
     ensures { outcome (entered counts.new result) (lists (memory u_cols.new u_vals.new u_ptrs.new l_cols.new l_vals.new l_ptrs.new pivots.new) dense.new) ≡ enter_row false counts.old cols.now vals.now (lists (memory u_cols.old u_vals.old u_ptrs.old l_cols.old l_vals.old l_ptrs.old pivots.old) dense.old) }
 {
-    let o = enter(
+    let added = adding::add_row(
         *counts, cols, vals, dense, u_cols, u_vals, u_ptrs, l_cols, l_vals, l_ptrs, pivots,
     );
-    *counts = o.counts;
-    o.told
+    keep(counts, added)
 }
 
 // The same by the second walk, which goes on: the new row of U is 0 over every pivot.
@@ -68,12 +51,20 @@ pub fn add_row_with_back_subs(
     l_vals: &mut [u32],
     l_ptrs: &mut [usize],
     pivots: &mut [u32],
-) -> Told
+) -> Result<Option<u32>, Refusal>
     ensures { outcome (entered counts.new result) (lists (memory u_cols.new u_vals.new u_ptrs.new l_cols.new l_vals.new l_ptrs.new pivots.new) dense.new) ≡ enter_row true counts.old cols.now vals.now (lists (memory u_cols.old u_vals.old u_ptrs.old l_cols.old l_vals.old l_ptrs.old pivots.old) dense.old) }
 {
-    let o = enter_with_back_subs(
+    let added = adding::add_row_with_back_subs(
         *counts, cols, vals, dense, u_cols, u_vals, u_ptrs, l_cols, l_vals, l_ptrs, pivots,
     );
-    *counts = o.counts;
-    o.told
+    keep(counts, added)
+}
+
+// Keeps the counts of a step, and answers what the row came to.
+fn keep(counts: &mut Counts, added: Result<Stepped, Refusal>) -> Result<Option<u32>, Refusal>
+    ensures { entered counts.new result ≡ entered_of counts.old added }
+{
+    let stepped = added?;
+    *counts = stepped.counts;
+    Ok(stepped.answer)
 }

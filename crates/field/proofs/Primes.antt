@@ -1,7 +1,7 @@
 -- The primes: the test is true exactly for them, and trial division by odd numbers up to the square root decides it.
 -- Assumes nothing.
 use mathlib.Core.Path.{◌≡◌, refl, sym, ◌∙◌, subst}
-use mathlib.Core.Logic.{◌⊎◌, inl, inr, ⊎_elim, ◌↔◌}
+use mathlib.Core.Logic.{inl, inr, ⊎_elim, ◌↔◌}
 use mathlib.Core.Bool.{Bool, true, false, not, ◌&&◌, and-true}
 use Prim.Native.Nat.{ℕ, ◌+◌, ◌*◌, ◌/◌, ◌%◌, ◌≤◌, ◌<◌, ◌∣◌}
 use native.Mathlib.Nat.{le_of_dvd, pos_of_dvd_of_pos, dvd_of_mod-eq-zero, mod-eq-zero_of_dvd, dvd-mul_left, dvd-mul_right, dvd_trans, div-mul_cancel, le-div_iff_mul-le, div-lt_iff_lt-mul, mul-le-mul, le_refl, one-mul, le_trans}

@@ -32,6 +32,7 @@ fn is_odd_prime(n: u32) -> bool
     ensures { result ≡ is_prime n }
 {
     let mut d = 3;
+    // A loop: only a quotient ends it, and after a `for` an answer would be owed that is never given.
     loop {
         let q = n / d;
         if q < d {

@@ -1,5 +1,5 @@
 // The operations on residues modulo p. None forms a sum past 32 bits or a product past 64.
-ghost use Rattle.std.specs.Prelude.{◌≡◌, ◌+◌, ◌-◌, ◌*◌, ◌%◌, ◌<◌, ◌≤◌};
+ghost use Rattle.std.specs.Prelude.{◌≡◌, ◌+◌, ◌-◌, ◌*◌, ◌%◌, ◌<◌};
 ghost use Rattle.field.specs.Asks.{Residues};
 
 // a + b modulo p.

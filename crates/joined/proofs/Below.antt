@@ -1,5 +1,6 @@
 -- What `append` and `add_row` make is well formed.
 -- Assumes nothing.
+use Rattle.std.specs.Prelude.{Ok}
 use mathlib.Core.Path.{◌≡◌, refl, sym, subst, ◌∙◌}
 use mathlib.Core.List.{List, [], ◌∷◌, ◌++◌}
 use Prim.Native.Nat.{ℕ, ◌+◌}
@@ -10,7 +11,6 @@ use Rattle.sparse.specs.Matrix.{Matrix}
 use Rattle.sparse.specs.Rows.{Entry, entries, rows_of, compressed}
 use Rattle.sparse.specs.Tests.{well_formed, one_row, well_formed_vector}
 use Rattle.sparse.specs.declared.Refusal.TheVariants.{Mismatch}
-use Rattle.sparse.specs.declared.Tested.TheVariants.{Good}
 use Rattle.sparse.proofs.Firsts.{lowest_good, refuse_good}
 use Rattle.writing.proofs.Lowests.{both_good}
 use Rattle.writing.proofs.Puttings.{Sized}
@@ -22,7 +22,7 @@ use Rattle.below.proofs.Passed.{lower_good, append-sizes, append-tests, append-s
 use Rattle.joined.proofs.Passed.{formed_of, matrix_of, size_of, Sizes, sizes, BothGood, both_formed}
 
 -- `append`
-pub append-formed : (p : ℕ) (a b : Matrix) → append_test p a b ≡ Good → well_formed 65536 p (compressed a.ncols (rows_of a ++ rows_of b)) ≡ Good
+pub append-formed : (p : ℕ) (a b : Matrix) → append_test p a b ≡ Ok tt → well_formed 65536 p (compressed a.ncols (rows_of a ++ rows_of b)) ≡ Ok tt
 unfolding both_tests
 append-formed p a b e =
     let all = both_good (append-sizes p a b) _ (sym (append-tests p a b) ∙ e) in
@@ -46,12 +46,12 @@ unfolding rows_of one_row rows_in
 rows_one n cols vals = row_alone cols vals
 
 -- `add_row`
-pub added_well_formed : (p : ℕ) (m : Matrix) (cols vals : List ℕ) → add_row_test p m cols vals ≡ Good → well_formed 65536 p (compressed m.ncols (rows_of m ++ (entries cols vals ∷ []))) ≡ Good
+pub added_well_formed : (p : ℕ) (m : Matrix) (cols vals : List ℕ) → add_row_test p m cols vals ≡ Ok tt → well_formed 65536 p (compressed m.ncols (rows_of m ++ (entries cols vals ∷ []))) ≡ Ok tt
 unfolding well_formed_vector one_row
 added_well_formed p m cols vals e =
     let all = both_good (row_sizes p m cols vals) _ (sym (row_tests_lem p m cols vals) ∙ e) in
     let size : Sizes p m.nrows m.ncols (length m.values) 1 m.ncols (length vals) 1 0 = sizes all.0 in
     let good : BothGood p m m.ncols cols vals = both_formed p m m.ncols cols vals size all.1 in
     let few : Sized (rows_of m ++ rows_of (one_row m.ncols cols vals)) (m.nrows + 1) (length m.values + length vals) = rw (rows_one m.ncols cols vals) (added_sized p m cols vals e) in
-    subst (λ (rs : List (List Entry)). well_formed 65536 p (compressed m.ncols (rows_of m ++ rs)) ≡ Good) (rows_one m.ncols cols vals)
+    subst (λ (rs : List (List Entry)). well_formed 65536 p (compressed m.ncols (rows_of m ++ rs)) ≡ Ok tt) (rows_one m.ncols cols vals)
     (append_well_formed p m (one_row m.ncols cols vals) good.matrix good.vector refl (size_of m.ncols few (rw (add-zero m.ncols) at size.together)))

@@ -1,5 +1,6 @@
 -- What `append_identity` and `append_col` make is well formed.
 -- Assumes nothing.
+use Rattle.std.specs.Prelude.{Ok}
 use mathlib.Core.Path.{◌≡◌, refl, sym, ◌∙◌}
 use mathlib.Core.List.{List, [], ◌∷◌}
 use Prim.Native.Nat.{ℕ, ◌+◌, ◌<◌}
@@ -16,7 +17,6 @@ use Rattle.sparse.specs.Matrix.{Matrix}
 use Rattle.sparse.specs.Rows.{entry, entries, compressed}
 use Rattle.sparse.specs.Tests.{modulus_test, values_test, well_formed}
 use Rattle.sparse.specs.declared.Refusal.TheVariants.{Modulus}
-use Rattle.sparse.specs.declared.Tested.TheVariants.{Good}
 use Rattle.sparse.specs.declared.inside.Clause.TheVariants.{Residue}
 use Rattle.sparse.proofs.Firsts.{lowest_good, refuse_good}
 use Rattle.meaning.proofs.BuiltForm.{below_p}
@@ -33,12 +33,12 @@ use Rattle.joined.proofs.Beyond.{Beyond, beyond_none, beyond_one, beside_well_fo
 use Rattle.joined.proofs.Passed.{formed_of, size_of, Sizes, sizes, BothGood, both_formed}
 
 -- a prime is above 1
-one_below : (p : ℕ) → modulus_test p ≡ Good → 1 < p
+one_below : (p : ℕ) → modulus_test p ≡ Ok tt → 1 < p
 unfolding modulus_test
 one_below p e = ((modulus_iff p).0 (not-false _ (refuse_good _ Modulus e))).0.least
 
 -- `append_identity`
-pub identity_well_formed : (p : ℕ) (m : Matrix) → append_identity_test p m ≡ Good → well_formed 65536 p (compressed (m.ncols + m.nrows) (table m.nrows (with_one m))) ≡ Good
+pub identity_well_formed : (p : ℕ) (m : Matrix) → append_identity_test p m ≡ Ok tt → well_formed 65536 p (compressed (m.ncols + m.nrows) (table m.nrows (with_one m))) ≡ Ok tt
 unfolding append_identity_test with_one
 identity_well_formed p m e =
     let one = lowest_good _ _ e in
@@ -49,7 +49,7 @@ identity_well_formed p m e =
     (size_of (m.ncols + m.nrows) (ones_sized m (ones_laid p m e)) three.0)
 
 -- what a good vector adds to row i: at most its one entry there
-beyond_column : (p n len i : ℕ) (idcs vals : List ℕ) {m : Matrix} → Formed m len idcs vals → values_test Residue p vals ≡ Good → Beyond p n (n + 1) (in_column n (entries idcs vals) i)
+beyond_column : (p n len i : ℕ) (idcs vals : List ℕ) {m : Matrix} → Formed m len idcs vals → values_test Residue p vals ≡ Ok tt → Beyond p n (n + 1) (in_column n (entries idcs vals) i)
 beyond_column p n len i idcs vals f small = go (ℕ_discrete after k)
   where
     k : ℕ
@@ -68,7 +68,7 @@ beyond_column p n len i idcs vals f small = go (ℕ_discrete after k)
         rw one.1 (beyond_one (omega arith) (omega arith) (below_p p vals small k one.0))
 
 -- `append_col`
-pub column_well_formed : (p : ℕ) (m : Matrix) (len : ℕ) (idcs vals : List ℕ) → append_col_test p m len idcs vals ≡ Good → well_formed 65536 p (compressed (m.ncols + 1) (table m.nrows (with_column m (entries idcs vals)))) ≡ Good
+pub column_well_formed : (p : ℕ) (m : Matrix) (len : ℕ) (idcs vals : List ℕ) → append_col_test p m len idcs vals ≡ Ok tt → well_formed 65536 p (compressed (m.ncols + 1) (table m.nrows (with_column m (entries idcs vals)))) ≡ Ok tt
 unfolding with_column in_column
 column_well_formed p m len idcs vals e =
     let all = both_good (col_sizes p m len idcs vals) _ (sym (col_tests p m len idcs vals) ∙ e) in

@@ -1,10 +1,9 @@
 -- The tests of a matrix and of what is joined to it, in the parts that functions of their own test.
 use Rattle.std.specs.Prelude.{not, List, [], ◌∷◌, ℕ, ◌+◌, eqb, length}
 use Rattle.sparse.specs.Matrix.{Matrix}
-use Rattle.sparse.specs.Refusals.{refuse}
+use Rattle.sparse.specs.Refusals.{refuse, Tested}
 use Rattle.sparse.specs.Tests.{modulus_test, size_test, shape_test, columns_test, rows_test, values_test, rows_values_test}
 use Rattle.sparse.specs.declared.Refusal.TheVariants.{Shape}
-use Rattle.sparse.specs.declared.Tested.{Tested}
 use Rattle.sparse.specs.declared.inside.Clause.TheVariants.{Residue}
 
 -- 3 of a vector, or of a row: columns and values differ in number

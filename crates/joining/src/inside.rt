@@ -9,7 +9,7 @@ use sparse::inside::{
     Clause, columns_test, modulus_test, rows_test, rows_values_test, shape_test, size_test,
     values_test,
 };
-use sparse::{MAX_ENTRIES, Refusal, Tested};
+use sparse::{MAX_ENTRIES, Refusal};
 
 // 1, then 2 of both parts and of the result. No sum is formed before its parts are within the limits.
 pub fn sizes_test(
@@ -22,22 +22,13 @@ pub fn sizes_test(
     more_entries: usize,
     add_rows: u32,
     add_cols: u32,
-) -> Tested
+) -> Result<(), Refusal>
     requires { Adds more_rows add_rows add_cols }
     ensures { result ≡ lowest (sizes_tests p nrows ncols entries more_rows more_cols more_entries add_rows add_cols) }
 {
-    let modulus = modulus_test(p);
-    if let Tested::Refused(why) = modulus {
-        return Tested::Refused(why);
-    }
-    let first = size_test(MAX_ENTRIES, nrows, ncols, entries);
-    if let Tested::Refused(why) = first {
-        return Tested::Refused(why);
-    }
-    let second = size_test(MAX_ENTRIES, more_rows, more_cols, more_entries);
-    if let Tested::Refused(why) = second {
-        return Tested::Refused(why);
-    }
+    modulus_test(p)?;
+    size_test(MAX_ENTRIES, nrows, ncols, entries)?;
+    size_test(MAX_ENTRIES, more_rows, more_cols, more_entries)?;
     let rows = nrows + add_rows;
     let cols = ncols + add_cols;
     size_test(MAX_ENTRIES, rows, cols, entries + more_entries)
@@ -54,28 +45,16 @@ pub fn forms_test(
     len: u32,
     idcs: &[u32],
     nums: &[u32],
-) -> Tested
+) -> Result<(), Refusal>
     requires { nrows ≤ 1024 }
     ensures { result ≡ lowest (forms_tests p (matrix nrows ncols row_ptrs.now col_idcs.now values.now) len idcs.now nums.now) }
 {
-    let shape = shape_test(nrows, ncols, row_ptrs, col_idcs, values);
-    if let Tested::Refused(why) = shape {
-        return Tested::Refused(why);
-    }
+    shape_test(nrows, ncols, row_ptrs, col_idcs, values)?;
     if idcs.len() != nums.len() {
-        return Tested::Refused(Refusal::Shape);
+        return Err(Refusal::Shape);
     }
-    let rows = rows_test(nrows, ncols, row_ptrs, col_idcs);
-    if let Tested::Refused(why) = rows {
-        return Tested::Refused(why);
-    }
-    let columns = columns_test(len, idcs);
-    if let Tested::Refused(why) = columns {
-        return Tested::Refused(why);
-    }
-    let residues = rows_values_test(Clause::Residue, p, nrows, row_ptrs, values);
-    if let Tested::Refused(why) = residues {
-        return Tested::Refused(why);
-    }
+    rows_test(nrows, ncols, row_ptrs, col_idcs)?;
+    columns_test(len, idcs)?;
+    rows_values_test(Clause::Residue, p, nrows, row_ptrs, values)?;
     values_test(Clause::Residue, p, nums)
 }

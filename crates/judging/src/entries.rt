@@ -82,14 +82,12 @@ fn some_astray(
     requires { Until ncols u_cols.now u_vals.now u_ptrs.now earlier l_cols.now l_vals.now until }
     ensures { result ≡ any until (astray p (upper ncols u_cols.now u_vals.now u_ptrs.now) earlier (entries l_cols.now l_vals.now)) }
 {
-    let mut at = 0;
-    while at < until {
+    for at in 0..until {
         if is_astray(
             p, ncols, u_cols, u_vals, u_ptrs, earlier, l_cols, l_vals, at,
         ) {
             return true;
         }
-        at += 1;
     }
     false
 }

@@ -43,12 +43,8 @@ fn multiply(
     requires { Multiplies p ncols u_cols.now u_vals.now u_ptrs.now l_cols.now l_vals.now dense.old }
     ensures { dense.new ≡ table ncols (λ j. times (entries l_cols.now l_vals.now) (value_at (upper ncols u_cols.now u_vals.now u_ptrs.now)) j % p) }
 {
-    let mut i = 0;
-    while i < l_cols.len() {
-        let row = l_cols[i];
-        let f = l_vals[i];
+    for (&row, &f) in l_cols.iter().zip(l_vals) {
         add_u_row(p, ncols, u_cols, u_vals, u_ptrs, row as usize, f, dense);
-        i += 1;
     }
 }
 

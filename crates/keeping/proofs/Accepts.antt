@@ -1,5 +1,6 @@
 -- An accepted row in memory: U has one row more, and passes its test again.
 -- Assumes nothing.
+use Rattle.std.specs.Prelude.{Ok, Some}
 use mathlib.Core.Path.{◌≡◌, sym, subst}
 use mathlib.Core.Bool.{false}
 use mathlib.Core.List.{List}
@@ -8,7 +9,6 @@ use native.Mathlib.Numerals.{add-one}
 use native.Mathlib.Omega.{arith}
 use lib.ListN.{length, set, length-set}
 use Rattle.sparse.specs.Put.{cols_of, values_of}
-use Rattle.sparse.specs.declared.Tested.TheVariants.{Good}
 use Rattle.state.specs.Asks.{Opened}
 use Rattle.state.specs.Room.{room_test}
 use Rattle.state.specs.State.{u_fault, u_lost, u_rows}
@@ -16,7 +16,6 @@ use Rattle.state.specs.declared.Counts.{Counts}
 use Rattle.state.proofs.Faults.{lost_none}
 use Rattle.walk.specs.Step.{Taken}
 use Rattle.walk.specs.Step as S
-use Rattle.walk.specs.declared.Answer.TheVariants.{Accepted}
 use Rattle.steps.specs.Added.{Added}
 use Rattle.steps.specs.Setting.{Tabled, Echelon, with_last, Grown}
 use Rattle.steps.proofs.Nones.{rows_few}
@@ -31,7 +30,7 @@ use Rattle.keeping.proofs.Places.{none_lost}
 use Rattle.keeping.proofs.Settings.{rows_in, stands_upright}
 use Rattle.keeping.proofs.Uppers.{upright_sound}
 
-module _ {c : Counts} {o : Lists} (s : Stands c o) (room : room_test c o.memory ≡ Good) {h : ℕ → ℕ} {g : ℕ} {t : Taken}
+module _ {c : Counts} {o : Lists} (s : Stands c o) (room : room_test c o.memory ≡ Ok tt) {h : ℕ → ℕ} {g : ℕ} {t : Taken}
     (a : Added c.modulus c.ncols c.rank (rows_in o.memory) h g t) where
   free : URoom c.ncols c.rank c.u_fill o.memory.u_cols o.memory.u_vals o.memory.u_ptrs
   free = u_free c o.memory room (omega (arith, a.within))
@@ -40,7 +39,7 @@ module _ {c : Counts} {o : Lists} (s : Stands c o) (room : room_test c o.memory 
   fits = record { columns = omega (arith, free.columns, a.u_room); numbers = omega (arith, free.numbers, a.u_room); pointer = free.pointers }
 
   -- U's rows after it are those before it, and the new one
-  pub stored_grown : Grown c.ncols c.rank g (rows_in o.memory) t.u (rows_in (stored c (Accepted g) t o.memory))
+  pub stored_grown : Grown c.ncols c.rank g (rows_in o.memory) t.u (rows_in (stored c (Some g) t o.memory))
   unfolding stored with_u
   stored_grown = upright_grown (stands_upright c o s) t.u fits o.memory.pivots g
 
@@ -66,7 +65,7 @@ module _ {c : Counts} {o : Lists} (s : Stands c o) (room : room_test c o.memory 
   accepted_opened = record { modulus = s.opened.modulus; wide = s.opened.wide; table = omega (arith, s.opened.table, length-set o.memory.pivots g c.rank) }
 
   -- in echelon form again, it passes U's test
-  pub accepted_sound : Echelon c.modulus c.ncols (suc c.rank) (rows_in (stored c (Accepted g) t o.memory)) (with_last c.rank g (heads c o s))
+  pub accepted_sound : Echelon c.modulus c.ncols (suc c.rank) (rows_in (stored c (Some g) t o.memory)) (with_last c.rank g (heads c o s))
       → u_fault c.modulus (u_rows c.ncols (c.rank + 1) (c.u_fill + length t.u) cols' vals' ptrs') (set o.memory.pivots g c.rank) ≡ false
   unfolding stored with_u S.upper
   accepted_sound e =

@@ -1,5 +1,6 @@
 -- A row's step leaves a state, whatever its answer.
 -- Assumes nothing.
+use Rattle.std.specs.Prelude.{None, Ok, Some}
 use mathlib.Core.Path.{◌≡◌, refl, sym, ap, ap₂, subst, ◌∙◌}
 use mathlib.Core.Bool.{Bool, cond}
 use mathlib.Core.List.{List, []}
@@ -8,13 +9,10 @@ use native.Mathlib.Nat.{add-zero}
 use native.Mathlib.Omega.{arith}
 use lib.ListN.{length}
 use Rattle.sparse.specs.Rows.{Entry, entry, entries}
-use Rattle.sparse.specs.declared.Tested.TheVariants.{Good}
 use Rattle.state.specs.Fresh.{counts, keeps}
 use Rattle.state.specs.Room.{room_test}
 use Rattle.state.specs.declared.Counts.{Counts}
-use Rattle.walk.specs.Step.{is_none, Taken}
-use Rattle.walk.specs.declared.Answer.{Answer}
-use Rattle.walk.specs.declared.Answer.TheVariants.{Accepted, None}
+use Rattle.walk.specs.Step.{is_none, Taken, Answer}
 use Rattle.steps.specs.Added.{Added, NotAdded}
 use Rattle.steps.specs.Rows.{Each, Storable, CleanRow}
 use Rattle.steps.proofs.Entries.{each_more}
@@ -34,7 +32,7 @@ module _ (on : Bool) (c : Counts) (es : List Entry) (o : Lists) (s : Stands c o)
   t = step_of on c es o.memory
 
   -- what the step adds, by its answer
-  pub took_added : {g : ℕ} → t.answer ≡ Accepted g → Added c.modulus c.ncols c.rank (rows_in o.memory) (heads c o s) g t
+  pub took_added : {g : ℕ} → t.answer ≡ Some g → Added c.modulus c.ncols c.rank (rows_in o.memory) (heads c o s) g t
   unfolding step_of
   took_added e = step_added on c.modulus c.ncols c.rank (rows_in o.memory) (heads c o s) (stands_inverts c o s) (stands_echelon c o s) es row e
 
@@ -42,8 +40,8 @@ module _ (on : Bool) (c : Counts) (es : List Entry) (o : Lists) (s : Stands c o)
   unfolding step_of
   took_not_added e = step_not_added on c.modulus c.ncols c.rank (rows_in o.memory) (heads c o s) (stands_inverts c o s) (stands_echelon c o s) es row e
 
-  module _ (room : room_test c o.memory ≡ Good) (d : List ℕ) where
-    accepted_stands : (g : ℕ) → t.answer ≡ Accepted g → Stands (counts_after c (Accepted g) t) (lists (stored c (Accepted g) t o.memory) d)
+  module _ (room : room_test c o.memory ≡ Ok tt) (d : List ℕ) where
+    accepted_stands : (g : ℕ) → t.answer ≡ Some g → Stands (counts_after c (Some g) t) (lists (stored c (Some g) t o.memory) d)
     unfolding counts_after stored with_u is_none step_of
     accepted_stands g e =
         let a : Added c.modulus c.ncols c.rank (rows_in o.memory) (heads c o s) g t = took_added e in
@@ -79,11 +77,11 @@ module _ (on : Bool) (c : Counts) (es : List Entry) (o : Lists) (s : Stands c o)
         })
 
     answer_stands : (a : Answer) → t.answer ≡ a → Stands (counts_after c a t) (lists (stored c a t o.memory) d)
-    answer_stands (Accepted g) e = accepted_stands g e
+    answer_stands (Some g) e = accepted_stands g e
     answer_stands None e = none_stands e
 
 -- a state again
-pub step_stands : (on : Bool) (c : Counts) (cols vals : List ℕ) (o : Lists) → Stands c o → Offered c cols vals → room_asked c (entries cols vals) o.memory ≡ Good
+pub step_stands : (on : Bool) (c : Counts) (cols vals : List ℕ) (o : Lists) → Stands c o → Offered c cols vals → room_asked c (entries cols vals) o.memory ≡ Ok tt
     → Stands (step_row on c (entries cols vals) o).answer.counts (step_row on c (entries cols vals) o).memory
 step_stands on c cols vals o s row room =
     step_ways on c (entries cols vals) o (λ r. Stands r.answer.counts r.memory)

@@ -1,5 +1,6 @@
 -- L in memory with one row more passes L's test as it did before, in each mode.
 -- Assumes nothing.
+use Rattle.std.specs.Prelude.{Ok, is_err}
 use mathlib.Core.Path.{◌≡◌, refl, sym, ap, subst, ◌∙◌}
 use mathlib.Core.Bool.{true, false, not, ◌||◌, cond}
 use mathlib.Core.List.{List}
@@ -17,11 +18,10 @@ use Rattle.sparse.specs.Rows.{Entry}
 use Rattle.sparse.specs.Tests.{values_test}
 use Rattle.sparse.specs.declared.inside.Clause.{Clause}
 use Rattle.sparse.specs.declared.inside.Clause.TheVariants.{Residue, Nonzero}
-use Rattle.sparse.specs.declared.Tested.TheVariants.{Good}
 use Rattle.sparse.proofs.Firsts.{neither}
 use Rattle.state.specs.Fresh.{counts, keeps}
 use Rattle.state.specs.Memory.{places}
-use Rattle.state.specs.State.{is_refused, crooked, pattern_fault, values_fault, l_fault}
+use Rattle.state.specs.State.{crooked, pattern_fault, values_fault, l_fault}
 use Rattle.state.specs.declared.Counts.{Counts}
 use Rattle.state.specs.declared.Mode.{Mode}
 use Rattle.state.specs.declared.Mode.TheVariants.{Full, Pattern, None}
@@ -128,7 +128,7 @@ module _ (rank rows fill : ℕ) (cols ptrs : List ℕ) where
 -- L's values with more after them
 values_grow : (p fill : ℕ) (vals : List ℕ) (es : List Entry) → values_fault p fill vals ≡ false → Each (λ e. Storable p e.value) es → fill + length es ≤ length vals → fill + length es ≤ 1048576
     → values_fault p (fill + length es) (put_at fill (values_of es) vals) ≡ false
-unfolding values_fault values_of is_refused
+unfolding values_fault values_of
 values_grow p fill vals es e each fits few =
     rw (
       le-ltb (places (put_at fill (values_of es) vals)) (fill + length es) (places_most _ (put_at fill (values_of es) vals) (omega (arith, fits, length-put_at fill (values_of es) vals enough)) few),
@@ -142,9 +142,9 @@ values_grow p fill vals es e each fits few =
     enough : fill + length (values_of es) ≤ length vals
     enough = omega (arith, many, fits)
 
-    passes : (c : Clause) → values_test c p (take fill vals) ≡ Good
-    passes Nonzero = not_refused _ (neither (ltb (places vals) fill || is_refused (values_test Residue p (take fill vals))) (is_refused (values_test Nonzero p (take fill vals))) e).1
-    passes Residue = not_refused _ (neither (ltb (places vals) fill) (is_refused (values_test Residue p (take fill vals))) (neither (ltb (places vals) fill || is_refused (values_test Residue p (take fill vals))) (is_refused (values_test Nonzero p (take fill vals))) e).0).1
+    passes : (c : Clause) → values_test c p (take fill vals) ≡ Ok tt
+    passes Nonzero = not_refused _ (neither (ltb (places vals) fill || is_err (values_test Residue p (take fill vals))) (is_err (values_test Nonzero p (take fill vals))) e).1
+    passes Residue = not_refused _ (neither (ltb (places vals) fill) (is_err (values_test Residue p (take fill vals))) (neither (ltb (places vals) fill || is_err (values_test Residue p (take fill vals))) (is_err (values_test Nonzero p (take fill vals))) e).0).1
 
     after : Storables p (take (fill + length es) (put_at fill (values_of es) vals))
     after =

@@ -1,5 +1,6 @@
 -- What is kept of L decides nothing else: answers, U and pivots are the same in every mode, and Pattern's L is Full's without values.
 -- Assumes nothing.
+use Rattle.std.specs.Prelude.{None, Some}
 use mathlib.Core.Path.{◌≡◌, refl, sym, subst, ◌∙◌}
 use mathlib.Core.Logic.{⊎_elim}
 use mathlib.Core.Bool.{Bool}
@@ -13,9 +14,7 @@ use Rattle.state.specs.Memory.{Memory, memory}
 use Rattle.state.specs.declared.Counts.{Counts}
 use Rattle.state.specs.declared.Mode.{Mode}
 use Rattle.state.specs.declared.Mode.TheVariants.{Full, Pattern}
-use Rattle.walk.specs.Step.{Taken}
-use Rattle.walk.specs.declared.Answer.{Answer}
-use Rattle.walk.specs.declared.Answer.TheVariants.{Accepted, None}
+use Rattle.walk.specs.Step.{Taken, Answer}
 use Rattle.steps.specs.History.{at_once}
 use Rattle.taking.specs.Stores.{with_u, with_l, kept_entries}
 use Rattle.stepping.specs.Take.{Lists, lists, step_of, counts_after, stored, step_row}
@@ -63,7 +62,7 @@ module _ (on : Bool) (es : List Entry) (p n rank fill : ℕ) (cols vals ptrs piv
 
   stored_alike : (x : Answer) → Alike (counts_after c x t) (counts_after d x t) (stored c x t m) (stored d x t k)
   unfolding counts_after stored with_u
-  stored_alike (Accepted g) = record { modulus = refl; ncols = refl; rank = refl; fill = refl; cols = refl; vals = refl; ptrs = refl; pivots = refl }
+  stored_alike (Some g) = record { modulus = refl; ncols = refl; rank = refl; fill = refl; cols = refl; vals = refl; ptrs = refl; pivots = refl }
   stored_alike None = record { modulus = refl; ncols = refl; rank = refl; fill = refl; cols = refl; vals = refl; ptrs = refl; pivots = refl }
 
   parts_agree : Agree (step_row on c es (lists m ad)) (step_row on d es (lists k bd))
@@ -111,7 +110,7 @@ module _ (on : Bool) (es : List Entry) (p n rank fill rows entries : ℕ) (cols 
 
   stored_patterned : (x : Answer) → SameL (counts_after pattern x comes) (counts_after full x comes) (stored pattern x comes bare) (stored full x comes whole) × ((stored pattern x comes bare).l_vals ≡ av)
   unfolding counts_after stored with_l kept_entries keeps
-  stored_patterned (Accepted g) = (record { rows = refl; fill = refl; cols = refl; ptrs = refl }, refl)
+  stored_patterned (Some g) = (record { rows = refl; fill = refl; cols = refl; ptrs = refl }, refl)
   stored_patterned None = (record { rows = refl; fill = refl; cols = refl; ptrs = refl }, refl)
 
   parts_patterned : Patterned av (step_row on pattern es (lists bare ad)) (step_row on full es (lists whole bd))

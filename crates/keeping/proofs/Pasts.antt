@@ -1,5 +1,6 @@
 -- A run of steps over memory from a fresh start: each leaves a state, and U in memory has the history of the rows taken.
 -- Assumes nothing.
+use Rattle.std.specs.Prelude.{None, Ok, Some}
 use mathlib.Core.Path.{◌≡◌, refl, sym, ap, ◌∙◌}
 use mathlib.Core.Bool.{Bool, cond}
 use mathlib.Core.List.{List, [], ◌∷◌, ◌++◌}
@@ -14,7 +15,6 @@ use Rattle.lists.proofs.Ontos.{length-onto}
 use Rattle.lists.proofs.Tables.{length-table}
 use Rattle.sparse.specs.Pivots.{mark}
 use Rattle.sparse.specs.Rows.{Entry, entries}
-use Rattle.sparse.specs.declared.Tested.TheVariants.{Good}
 use Rattle.sparse.proofs.Cuts.{small}
 use Rattle.sparse.proofs.Firsts.{lowest_good}
 use Rattle.state.specs.Fresh.{Opening, counts, started, new_test}
@@ -23,9 +23,7 @@ use Rattle.state.specs.declared.Counts.{Counts}
 use Rattle.state.specs.declared.Mode.{Mode}
 use Rattle.state.proofs.FreshStates.{fresh_state}
 use Rattle.state.proofs.Starts.{startable}
-use Rattle.walk.specs.Step.{is_none, pivot_at}
-use Rattle.walk.specs.declared.Answer.{Answer}
-use Rattle.walk.specs.declared.Answer.TheVariants.{Accepted, None}
+use Rattle.walk.specs.Step.{is_none, pivot_at, Answer}
 use Rattle.steps.specs.History.{Told, told, accepted, History, fresh, more}
 use Rattle.steps.specs.Setting.{Echelon}
 use Rattle.steps.proofs.Histories.{accepted_same, accepted_more}
@@ -59,7 +57,7 @@ pub record Past (ts : List Told) (c : Counts) (o : Lists) : Type 0 where
 accepted_count : (ts : List Told) (es : List Entry) (a : Answer) → length (accepted (ts ++ (told es a ∷ []))) ≡ length (accepted ts) + cond (is_none a) 0 1
 unfolding is_none
 accepted_count ts es None = ap length (accepted_same ts es) ∙ sym (add-zero (length (accepted ts)))
-accepted_count ts es (Accepted g) = ap length (accepted_more ts es g) ∙ length-append (accepted ts) (es ∷ [])
+accepted_count ts es (Some g) = ap length (accepted_more ts es g) ∙ length-append (accepted ts) (es ∷ [])
 
 -- a state without rows is a fresh start
 pub empty_past : (c : Counts) (o : Lists) → Stands c o → c.rank ≡ 0 → Past [] c o
@@ -74,7 +72,7 @@ empty_past c o s none = record { history = fresh (rows_in o.memory) (record { wi
     go j l (no q) = absurd (omega (arith, e.table.row j l q))
 
 -- each step adds its row
-pub step_past : (on : Bool) (c : Counts) (cols vals : List ℕ) (o : Lists) → Stands c o → Offered c cols vals → room_asked c (entries cols vals) o.memory ≡ Good → (ts : List Told) → Past ts c o
+pub step_past : (on : Bool) (c : Counts) (cols vals : List ℕ) (o : Lists) → Stands c o → Offered c cols vals → room_asked c (entries cols vals) o.memory ≡ Ok tt → (ts : List Told) → Past ts c o
     → Past (ts ++ (told (entries cols vals) (step_row on c (entries cols vals) o).answer.answer ∷ [])) (step_row on c (entries cols vals) o).answer.counts (step_row on c (entries cols vals) o).memory
 step_past on c cols vals o s row room ts past = record {
   history = rw (k.modulus, k.ncols) (more ts (rows_in o.memory) past.history on (entries cols vals) row.clean a (rows_in (step_row on c (entries cols vals) o).memory.memory) (rw past.rank (step_next on c cols vals o s row room)));
@@ -88,7 +86,7 @@ step_past on c cols vals o s row room ts past = record {
     a = (step_row on c (entries cols vals) o).answer.answer
 
 -- and a fresh start is a state
-pub fresh_stands : (p n : ℕ) (mode : Mode) (o : Opening) → new_test p n mode o ≡ Good → (uc uv lc lv dense : List ℕ)
+pub fresh_stands : (p n : ℕ) (mode : Mode) (o : Opening) → new_test p n mode o ≡ Ok tt → (uc uv lc lv dense : List ℕ)
     → Stands (counts mode p n 0 0 0 0) (lists (memory uc uv (started mode n o).u_ptrs lc lv (started mode n o).l_ptrs (started mode n o).pivots) dense)
 unfolding new_test started
 fresh_stands p n mode o good uc uv lc lv dense = record {

@@ -1,8 +1,8 @@
 -- A state, taken apart and put together: its parts pass the test again, and U's rows stand one by one.
 -- Assumes nothing.
+use Rattle.std.specs.Prelude.{Ok}
 use mathlib.Core.Path.{◌≡◌}
 use Rattle.sparse.specs.Refusals.{refuse}
-use Rattle.sparse.specs.declared.Tested.TheVariants.{Good}
 use Rattle.state.specs.Memory.{Memory}
 use Rattle.state.specs.State.{u_of, state_test}
 use Rattle.state.specs.declared.Counts.{Counts}
@@ -18,7 +18,7 @@ abbrev pub rows_in : Memory → S.Upper
 rows_in m = S.upper m.u_cols m.u_vals m.u_ptrs m.pivots
 
 -- 13 finds nothing where none of its parts does
-pub parts_state : {c : Counts} {m : Memory} → Parts c m → state_test c m ≡ Good
+pub parts_state : {c : Counts} {m : Memory} → Parts c m → state_test c m ≡ Ok tt
 unfolding state_test u_of refuse
 parts_state p = rw (p.lost, p.fault, p.multipliers)
 

@@ -1,5 +1,6 @@
 -- Values in 1..p-1 are those that the tests 6 and 7 let pass.
 -- Assumes nothing.
+use Rattle.std.specs.Prelude.{Ok}
 use mathlib.Core.Path.{◌≡◌, subst}
 use mathlib.Core.List.{List, ◌++◌}
 use Prim.Native.Nat.{ℕ, ◌+◌, ◌-◌, ◌<◌}
@@ -12,7 +13,6 @@ use Rattle.sparse.specs.Put.{values_of}
 use Rattle.sparse.specs.Rows.{Entry}
 use Rattle.sparse.specs.Tests.{value_test, values_test}
 use Rattle.sparse.specs.declared.Refusal.TheVariants.{Value, Zero}
-use Rattle.sparse.specs.declared.Tested.TheVariants.{Good}
 use Rattle.sparse.specs.declared.inside.Clause.{Clause}
 use Rattle.sparse.specs.declared.inside.Clause.TheVariants.{Residue, Nonzero}
 use Rattle.sparse.proofs.Firsts.{refuse_false, all_good}
@@ -25,12 +25,12 @@ use Rattle.steps.proofs.Entries.{map_at}
 pub record Storables (p : ℕ) (vals : List ℕ) : Type 0 where
   pub at : (k : ℕ) → k < length vals → Storable p (get_or vals k 0)
 
-pub storables_pass : {p : ℕ} {vals : List ℕ} → Storables p vals → (c : Clause) → values_test c p vals ≡ Good
+pub storables_pass : {p : ℕ} {vals : List ℕ} → Storables p vals → (c : Clause) → values_test c p vals ≡ Ok tt
 unfolding values_test value_test
 storables_pass {p} {vals} s Residue = all_good (length vals) (λ k. value_test Residue p (get_or vals k 0)) (λ k h. refuse_false _ Value (lt-leb p (get_or vals k 0) (s.at k h).below))
 storables_pass {p} {vals} s Nonzero = all_good (length vals) (λ k. value_test Nonzero p (get_or vals k 0)) (λ k h. refuse_false _ Zero (ne_eqb (get_or vals k 0) 0 (λ z. omega (arith, (s.at k h).pos))))
 
-pub pass_storables : {p : ℕ} {vals : List ℕ} → ((c : Clause) → values_test c p vals ≡ Good) → Storables p vals
+pub pass_storables : {p : ℕ} {vals : List ℕ} → ((c : Clause) → values_test c p vals ≡ Ok tt) → Storables p vals
 pass_storables {p} {vals} good = record { at = λ k h. record { pos = above_zero p vals (good Nonzero) k h; below = below_p p vals (good Residue) k h } }
 
 pub storables_append : {p : ℕ} {xs ys : List ℕ} → Storables p xs → Storables p ys → Storables p (xs ++ ys)

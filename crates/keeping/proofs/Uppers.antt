@@ -1,5 +1,6 @@
 -- U in memory, row by row: what its tests say of each row, and that rows of which this holds pass the tests.
 -- Assumes nothing.
+use Rattle.std.specs.Prelude.{Ok}
 use mathlib.Core.Path.{◌≡◌, refl, sym, ap, ap₂, ◌∙◌}
 use mathlib.Core.Bool.{false, not, ◌&&◌, ◌||◌}
 use mathlib.Core.List.{List}
@@ -15,13 +16,12 @@ use Rattle.sparse.specs.Matrix.{Matrix, matrix, part, row}
 use Rattle.sparse.specs.Pivots.{mark}
 use Rattle.sparse.specs.Refusals.{refuse, ◌else◌}
 use Rattle.sparse.specs.Tests.{modulus_test, size_test, shape_test, columns_test, row_test, rows_test, values_test, rows_values_test, matrix_test, well_formed, clean}
-use Rattle.sparse.specs.declared.Tested.TheVariants.{Good}
 use Rattle.sparse.specs.declared.inside.Clause.{Clause}
 use Rattle.sparse.specs.declared.inside.Clause.TheVariants.{Residue, Nonzero}
 use Rattle.sparse.proofs.Firsts.{lowest_good, lowest_next, lowest_last, each_good, all_good}
 use Rattle.meaning.proofs.RowColumns.{climbs_good}
 use Rattle.state.specs.Asks.{Opened}
-use Rattle.state.specs.State.{is_refused, head_of, headless, misplaced, u_fault, u_lost, u_rows}
+use Rattle.state.specs.State.{head_of, headless, misplaced, u_fault, u_lost, u_rows}
 use Rattle.state.proofs.Faults.{Held, lost_none}
 use Rattle.walk.specs.Asks.{PivotRow}
 use Rattle.walk.specs.Step.{pivot_at}
@@ -49,7 +49,7 @@ row_front rows fill ptrs xs r h within fits =
     ∙ part_front (get_or ptrs r 0) (get_or ptrs (r + 1) 0) fill xs within fits
 
 -- 6 and 7 find nothing in the rows of a clean matrix
-clean_values : (limit p : ℕ) (m : Matrix) → clean limit p m ≡ Good → (c : Clause) → rows_values_test c p m.nrows m.row_ptrs m.values ≡ Good
+clean_values : (limit p : ℕ) (m : Matrix) → clean limit p m ≡ Ok tt → (c : Clause) → rows_values_test c p m.nrows m.row_ptrs m.values ≡ Ok tt
 unfolding clean well_formed matrix_test
 clean_values limit p m e Nonzero = (lowest_good _ _ (lowest_good _ _ e).1).0
 clean_values limit p m e Residue = (lowest_good _ _ (lowest_good _ _ (lowest_good _ _ (lowest_good _ _ (lowest_good _ _ (lowest_good _ _ (lowest_good _ _ e).0).1).1).0).1).1).0
@@ -70,7 +70,7 @@ module _ (p n rank fill : ℕ) (cols vals ptrs pivots : List ℕ) (o : Opened p 
       fine : (r : ℕ) → r < rank → Fine p n fill (head_at p n rank fill cols vals ptrs pivots o found sound r) cols vals ptrs r
       fine r h =
           let inside = within p n rank fill cols vals ptrs pivots o found sound r h in
-          let tests : (c : Clause) → rows_values_test c p rank (take (rank + 1) ptrs) (take fill vals) ≡ Good = clean_values 1048576 p (matrix rank n (take (rank + 1) ptrs) (take fill cols) (take fill vals)) (state_clean p n rank fill cols vals ptrs pivots o found sound) in
+          let tests : (c : Clause) → rows_values_test c p rank (take (rank + 1) ptrs) (take fill vals) ≡ Ok tt = clean_values 1048576 p (matrix rank n (take (rank + 1) ptrs) (take fill cols) (take fill vals)) (state_clean p n rank fill cols vals ptrs pivots o found sound) in
           record {
             pivot = state_row p n rank fill cols vals ptrs pivots o found sound r h;
             fits = inside.fits;
@@ -78,7 +78,7 @@ module _ (p n rank fill : ℕ) (cols vals ptrs pivots : List ℕ) (o : Opened p 
           }
 
 module _ {p n rank fill : ℕ} {cols vals ptrs : List ℕ} {h : ℕ → ℕ} (held : Held rank fill cols vals ptrs) (u : Upright p n rank fill cols vals ptrs h)
-    (modulus : modulus_test p ≡ Good) (high : rank ≤ 1024) (wide : n ≤ 1024) where
+    (modulus : modulus_test p ≡ Ok tt) (high : rank ≤ 1024) (wide : n ≤ 1024) where
   abbrev m : Matrix
   m = matrix rank n (take (rank + 1) ptrs) (take fill cols) (take fill vals)
 
@@ -91,11 +91,11 @@ module _ {p n rank fill : ℕ} {cols vals ptrs : List ℕ} {h : ℕ → ℕ} (he
   long_vals : length (take fill vals) ≡ fill
   long_vals = length-take-le fill vals held.numbers
 
-  sized : size_test 1048576 rank n (length (take fill vals)) ≡ Good
+  sized : size_test 1048576 rank n (length (take fill vals)) ≡ Ok tt
   unfolding size_test refuse
   sized = rw (le-ltb 1024 rank high, le-ltb 1024 n wide, le-ltb 1048576 (length (take fill vals)) (omega (arith, long_vals, held.few)))
 
-  shaped : shape_test m ≡ Good
+  shaped : shape_test m ≡ Ok tt
   unfolding shape_test refuse
   shaped = rw (
     eq-eqb (length (take fill cols)) (length (take fill vals)) (long_cols ∙ sym long_vals),
@@ -104,11 +104,11 @@ module _ {p n rank fill : ℕ} {cols vals ptrs : List ℕ} {h : ℕ → ℕ} (he
     eq-eqb (get_or (take (rank + 1) ptrs) rank 0) (length (take fill vals)) (pointer rank (omega arith) ∙ u.ends ∙ sym long_vals),
   )
 
-  lined : rows_test rank n (take (rank + 1) ptrs) (take fill cols) ≡ Good
+  lined : rows_test rank n (take (rank + 1) ptrs) (take fill cols) ≡ Ok tt
   unfolding rows_test row_test refuse ◌else◌ row
   lined = all_good rank (λ i. row_test n (take fill cols) (get_or (take (rank + 1) ptrs) i 0) (get_or (take (rank + 1) ptrs) (i + 1) 0)) one
     where
-      one : (i : ℕ) → i < rank → row_test n (take fill cols) (get_or (take (rank + 1) ptrs) i 0) (get_or (take (rank + 1) ptrs) (i + 1) 0) ≡ Good
+      one : (i : ℕ) → i < rank → row_test n (take fill cols) (get_or (take (rank + 1) ptrs) i 0) (get_or (take (rank + 1) ptrs) (i + 1) 0) ≡ Ok tt
       one i l =
           let a : get_or (take (rank + 1) ptrs) i 0 ≡ get_or ptrs i 0 = pointer i (omega arith) in
           let b : get_or (take (rank + 1) ptrs) (i + 1) 0 ≡ get_or ptrs (i + 1) 0 = pointer (i + 1) (omega arith) in
@@ -118,15 +118,15 @@ module _ {p n rank fill : ℕ} {cols vals ptrs : List ℕ} {h : ℕ → ℕ} (he
           )
           (ap (columns_test n) (row_front rank fill ptrs cols i l (u.rows i l).fits held.columns) ∙ climbs_good n (row ptrs cols i) (u.rows i l).pivot.climbs)
 
-  valued : (c : Clause) → rows_values_test c p rank (take (rank + 1) ptrs) (take fill vals) ≡ Good
+  valued : (c : Clause) → rows_values_test c p rank (take (rank + 1) ptrs) (take fill vals) ≡ Ok tt
   unfolding rows_values_test
   valued c = all_good rank (λ i. values_test c p (row (take (rank + 1) ptrs) (take fill vals) i)) (λ i l. ap (values_test c p) (row_front rank fill ptrs vals i l (u.rows i l).fits held.numbers) ∙ storables_pass (u.rows i l).values c)
 
-  pub upright_clean : clean 1048576 p m ≡ Good
+  pub upright_clean : clean 1048576 p m ≡ Ok tt
   unfolding clean well_formed matrix_test
   upright_clean = sym (lowest_next _ refl formed (lowest_last (sym (valued Nonzero))))
     where
-      formed : well_formed 1048576 p m ≡ Good
+      formed : well_formed 1048576 p m ≡ Ok tt
       formed = sym (lowest_next _ refl modulus (lowest_next _ refl sized (lowest_last (lowest_next _ refl shaped (lowest_next _ refl lined (lowest_last (sym (valued Residue))))))))
 
   head_here : (r : ℕ) → r < rank → head_of m r ≡ h r
@@ -165,5 +165,5 @@ module _ {p n rank fill : ℕ} {cols vals ptrs : List ℕ} {h : ℕ → ℕ} (he
 
     -- rows that stand so, and their table, pass U's test
     pub upright_sound : u_fault p (u_rows n rank fill cols vals ptrs) pivots ≡ false
-    unfolding u_fault u_rows is_refused
+    unfolding u_fault u_rows
     upright_sound = rw (upright_clean, any_none rank (headless m pivots) headed, any_none n (misplaced m pivots) placed)

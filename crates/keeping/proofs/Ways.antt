@@ -1,5 +1,6 @@
 -- The two ways of a row's step: None at once, or what the row comes to, stored.
 -- Assumes nothing.
+use Rattle.std.specs.Prelude.{None, Ok}
 use mathlib.Core.Path.{◌≡◌, sym, subst}
 use mathlib.Core.Logic.{⊎_elim}
 use mathlib.Core.Bool.{Bool, true, false}
@@ -7,12 +8,10 @@ use mathlib.Core.List.{List}
 use Rattle.lists.proofs.Find.{told}
 use Rattle.sparse.specs.Lent.{Outcome, outcome}
 use Rattle.sparse.specs.Rows.{Entry}
-use Rattle.sparse.specs.declared.Tested.TheVariants.{Good}
 use Rattle.state.specs.Memory.{Memory}
 use Rattle.state.specs.Room.{room_test}
 use Rattle.state.specs.declared.Counts.{Counts}
 use Rattle.walk.specs.Step.{Taken}
-use Rattle.walk.specs.declared.Answer.TheVariants.{None}
 use Rattle.steps.specs.History.{at_once}
 use Rattle.stepping.specs.Take.{Lists, lists, stepped, cleared, room_asked, step_of, counts_after, stored, took, row_step, step_row}
 use Rattle.stepping.specs.declared.Stepped.{Stepped}
@@ -39,6 +38,6 @@ module _ (on : Bool) (c : Counts) (es : List Entry) (o : Lists) where
   step_ways P once walks = ⊎_elim (λ e. subst P (sym (at_once_step e)) (once e)) (λ e. subst P (sym (walk_step e)) (walks e)) (told (at_once c.ncols c.rank es))
 
 -- room is asked for where the row is walked
-pub room_there : (c : Counts) (es : List Entry) (m : Memory) → room_asked c es m ≡ Good → at_once c.ncols c.rank es ≡ false → room_test c m ≡ Good
+pub room_there : (c : Counts) (es : List Entry) (m : Memory) → room_asked c es m ≡ Ok tt → at_once c.ncols c.rank es ≡ false → room_test c m ≡ Ok tt
 unfolding room_asked
 room_there c es m room e = rw e at room

@@ -1,5 +1,6 @@
 -- A row's entry in the last column: columns climb, so it is the row's last entry, or there is none.
 -- Assumes nothing.
+use Rattle.std.specs.Prelude.{None, Some}
 use mathlib.Core.Path.{◌≡◌, refl, sym, ap, ◌∙◌}
 use mathlib.Core.Bool.{Bool, true, false, cond}
 use mathlib.Core.List.{List, [], ◌∷◌, ◌++◌, map}
@@ -14,10 +15,8 @@ use Rattle.lists.specs.Table.{table}
 use Rattle.sparse.specs.Matrix.{value_in}
 use Rattle.sparse.specs.Rows.{Entry, entry, entries}
 use Rattle.meaning.proofs.Values.{Climbs, value_there, value_elsewhere}
-use Rattle.lasts.specs.Gathers.{held}
+use Rattle.lasts.specs.Gathers.{held, Last}
 use Rattle.lasts.specs.Lasts.{in_last}
-use Rattle.lasts.specs.declared.gather.Last.{Last}
-use Rattle.lasts.specs.declared.gather.Last.TheVariants.{Nothing, Value}
 
 module _ {A : Type 0} (f : A → Bool) where
   keep_snoc : (xs : List A) (x : A) → keep f (xs ++ (x ∷ [])) ≡ keep f xs ++ cond (f x) (x ∷ []) []
@@ -73,15 +72,15 @@ module _ (n : ℕ) (cols vals : List ℕ) (same : length cols ≡ length vals) w
 
 -- what was found, as a value
 unfoldable pub worth : Last → ℕ
-worth Nothing = 0
-worth (Value v) = v
+worth None = 0
+worth (Some v) = v
 
 -- what a row holds in the last column, and that it is a stored value
 pub record Standing (n : ℕ) (cols vals : List ℕ) : Type 0 where
   pub what : Last
   pub here : (k : ℕ) → held what k ≡ in_last n (entries cols vals) k
   pub value : value_in cols vals (n - 1) ≡ worth what
-  pub stored : (v : ℕ) → what ≡ Value v → (i : ℕ) × (i < length vals) × (v ≡ get_or vals i 0)
+  pub stored : (v : ℕ) → what ≡ Some v → (i : ℕ) × (i < length vals) × (v ≡ get_or vals i 0)
 
 pub standing : (n : ℕ) (cols vals : List ℕ) → length cols ≡ length vals → Climbs n cols → Standing n cols vals
 unfolding held worth
@@ -90,7 +89,7 @@ standing n cols vals same c = go (dec_lt 0 (length cols)) (ℕ_discrete (get_or 
     -- the last column is no stored one
     nothing : ((k : ℕ) → [] ≡ in_last n (entries cols vals) k) → ((i : ℕ) → i < length cols → get_or cols i 0 + 1 ≡ n → ⊥) → Standing n cols vals
     nothing none other = record {
-      what = Nothing;
+      what = None;
       here = none;
       value = value_elsewhere cols vals (n - 1) (λ i l e. other i l (omega (arith, c.below i l)));
       stored = λ v e. let z : ◌≡◌ {A = ℕ} 0 1 = cc in absurd (omega arith);
@@ -100,7 +99,7 @@ standing n cols vals same c = go (dec_lt 0 (length cols)) (ℕ_discrete (get_or 
     go (no empty) d = nothing (last_none n cols vals same (λ i l e. omega arith)) (λ i l e. omega arith)
     go (yes some) (no ne) = nothing (last_other n cols vals same c (length cols - 1) (omega arith) ne) (other_end n cols vals same c (length cols - 1) (omega arith) ne)
     go (yes some) (yes e) = record {
-      what = Value (get_or vals (length cols - 1) 0);
+      what = Some (get_or vals (length cols - 1) 0);
       here = last_one n cols vals same c (length cols - 1) (omega arith) e;
       value = let q : n - 1 ≡ get_or cols (length cols - 1) 0 = omega arith in ap (value_in cols vals) q ∙ value_there n cols vals c (length cols - 1) (omega arith);
       stored = λ v q. (length cols - 1, omega arith, cc);

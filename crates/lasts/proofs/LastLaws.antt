@@ -1,5 +1,6 @@
 -- What each call makes is a good vector, and its value at an index is the matrix's in the last column of that index's row.
 -- Assumes nothing.
+use Rattle.std.specs.Prelude.{None, Ok}
 use mathlib.Core.Path.{◌≡◌, sym, ◌∙◌}
 use mathlib.Core.Bool.{cond}
 use mathlib.Core.List.{List, []}
@@ -13,7 +14,6 @@ use Rattle.sparse.specs.Matrix.{Matrix, row, value_in, value_at}
 use Rattle.sparse.specs.Pivots.{mark}
 use Rattle.sparse.specs.Put.{cols_of, values_of}
 use Rattle.sparse.specs.Tests.{modulus_test, value_test, values_test, rows_values_test, matrix_test, well_formed, well_formed_vector}
-use Rattle.sparse.specs.declared.Tested.TheVariants.{Good}
 use Rattle.sparse.proofs.Firsts.{refuse_good, lowest_good, each_good}
 use Rattle.meaning.proofs.Values.{columns_climb}
 use Rattle.writing.proofs.Written.{value_of}
@@ -23,7 +23,6 @@ use Rattle.lasts.specs.Asks.{Sourced}
 use Rattle.lasts.specs.Gathers.{size_of, source_of, taken_at, taken, gathered, held}
 use Rattle.pivots.specs.Tables.{table_test}
 use Rattle.lasts.specs.Lasts.{last_of, by_row, by_row_rev, by_pivot}
-use Rattle.lasts.specs.declared.gather.Last.TheVariants.{Nothing}
 use Rattle.lasts.specs.declared.gather.Order.{Order}
 use Rattle.lasts.specs.declared.gather.Order.TheVariants.{ByRow, Reversed, ByPivot}
 use Rattle.lasts.proofs.Ends.{worth, Standing, standing}
@@ -31,11 +30,11 @@ use Rattle.lasts.proofs.Forms.{Single, singles_formed, value_on, value_at_lem, v
 use Rattle.lasts.proofs.Sources.{source_row, taken_none, taken_last, last_of_row}
 use Rattle.lasts.proofs.Ways.{by_row_lem, by_row_rev_lem, by_pivot_lem, rows_in_order, rows_reversed, rows_sourced, pivot_formed, pivots_sourced}
 
-module _ (p : ℕ) (m : Matrix) (good : well_formed 65536 p m ≡ Good) where
+module _ (p : ℕ) (m : Matrix) (good : well_formed 65536 p m ≡ Ok tt) where
   whole : Readable m
   whole = formed_readable 65536 p m good
 
-  modulus : modulus_test p ≡ Good
+  modulus : modulus_test p ≡ Ok tt
   unfolding well_formed
   modulus = (lowest_good _ _ good).0
 
@@ -71,7 +70,7 @@ module _ (p : ℕ) (m : Matrix) (good : well_formed 65536 p m ≡ Good) where
 
     mark_single : (k : ℕ) → source k ≡ mark → Single p k (taken_at o m pivots k)
     unfolding held
-    mark_single k e = record { what = Nothing; here = taken_none o m pivots k e; small = λ v q. let z : ◌≡◌ {A = ℕ} 0 1 = cc in absurd (omega arith) }
+    mark_single k e = record { what = None; here = taken_none o m pivots k e; small = λ v q. let z : ◌≡◌ {A = ℕ} 0 1 = cc in absurd (omega arith) }
 
     -- each index has at most one entry
     index_single : (k : ℕ) → k < size_of o m.nrows pivots → Single p k (taken_at o m pivots k)
@@ -81,7 +80,7 @@ module _ (p : ℕ) (m : Matrix) (good : well_formed 65536 p m ≡ Good) where
         go (yes e) = mark_single k e
         go (no ne) = rw (taken_last o m pivots k ne) (row_single (source k) (source_row o m pivots k (record { from = s; within = h }) ne) k)
 
-    gathered_formed : well_formed_vector 65536 p (size_of o m.nrows pivots) (cols_of (gathered o m pivots)) (values_of (gathered o m pivots)) ≡ Good
+    gathered_formed : well_formed_vector 65536 p (size_of o m.nrows pivots) (cols_of (gathered o m pivots)) (values_of (gathered o m pivots)) ≡ Ok tt
     unfolding gathered taken
     gathered_formed = vector_formed p (size_of o m.nrows pivots) (gathered o m pivots) modulus s.few (singles_formed p (taken_at o m pivots) (size_of o m.nrows pivots) index_single)
 
@@ -99,7 +98,7 @@ module _ (p : ℕ) (m : Matrix) (good : well_formed 65536 p m ≡ Good) where
   few_rows = omega (arith, whole.few)
 
   -- `last_column`: a good vector of length nrows, at k the value of row k
-  pub last_column_formed : well_formed_vector 65536 p m.nrows (cols_of (by_row m)) (values_of (by_row m)) ≡ Good
+  pub last_column_formed : well_formed_vector 65536 p m.nrows (cols_of (by_row m)) (values_of (by_row m)) ≡ Ok tt
   unfolding size_of
   last_column_formed = rw (← by_row_lem m [] few_rows) (gathered_formed ByRow [] (rows_sourced ByRow p m [] good rows_in_order))
 
@@ -108,7 +107,7 @@ module _ (p : ℕ) (m : Matrix) (good : well_formed 65536 p m ≡ Good) where
   last_column_value k h = rw (← by_row_lem m [] few_rows) (gathered_value ByRow [] (rows_sourced ByRow p m [] good rows_in_order) k h ∙ rw (ne_eqb k mark (λ e. omega (arith, few_rows))))
 
   -- `last_column_rev`: the same, at k the value of row nrows-1-k
-  pub last_column_rev_formed : well_formed_vector 65536 p m.nrows (cols_of (by_row_rev m)) (values_of (by_row_rev m)) ≡ Good
+  pub last_column_rev_formed : well_formed_vector 65536 p m.nrows (cols_of (by_row_rev m)) (values_of (by_row_rev m)) ≡ Ok tt
   unfolding size_of
   last_column_rev_formed = rw (← by_row_rev_lem m [] few_rows) (gathered_formed Reversed [] (rows_sourced Reversed p m [] good rows_reversed))
 
@@ -117,8 +116,8 @@ module _ (p : ℕ) (m : Matrix) (good : well_formed 65536 p m ≡ Good) where
   last_column_rev_value k h = rw (← by_row_rev_lem m [] few_rows) (gathered_value Reversed [] (rows_sourced Reversed p m [] good rows_reversed) k h ∙ rw (ne_eqb (m.nrows - 1 - k) mark (λ e. omega (arith, few_rows))))
 
 -- `last_column_by_pivot`: a good vector of the table's length, at k the value of the row that the table names there, 0 at the mark
-module _ (p : ℕ) (m : Matrix) (pivots : List ℕ) (good : table_test p m pivots ≡ Good) where
-  pub last_column_by_pivot_formed : well_formed_vector 65536 p (length pivots) (cols_of (by_pivot m pivots)) (values_of (by_pivot m pivots)) ≡ Good
+module _ (p : ℕ) (m : Matrix) (pivots : List ℕ) (good : table_test p m pivots ≡ Ok tt) where
+  pub last_column_by_pivot_formed : well_formed_vector 65536 p (length pivots) (cols_of (by_pivot m pivots)) (values_of (by_pivot m pivots)) ≡ Ok tt
   unfolding size_of
   last_column_by_pivot_formed = rw (← by_pivot_lem m pivots) (gathered_formed p m (pivot_formed p m pivots good) ByPivot pivots (pivots_sourced p m pivots good))
 

@@ -3,10 +3,10 @@
 use mathlib.Core.Path.{◌≡◌}
 use mathlib.Core.List.{List}
 use Prim.Native.Nat.{ℕ}
+use Rattle.sparse.specs.Put.{Built}
 use Rattle.lists.proofs.Only.{only}
 use Rattle.sparse.specs.Lent.{LentVector, Outcome}
 use Rattle.sparse.specs.Matrix.{Matrix}
-use Rattle.sparse.specs.declared.Built.{Built}
 use Rattle.lasts.specs.Lasts.{last_column, last_column_rev, last_column_by_pivot}
 
 pub last_column_only : (p : ℕ) (m : Matrix) (l : LentVector) {o u : Outcome Built LentVector} → o ≡ last_column p m l → u ≡ last_column p m l → o ≡ u

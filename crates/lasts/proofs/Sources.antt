@@ -1,5 +1,6 @@
 -- The source of an index is the mark or a row, and what is taken from it.
 -- Assumes nothing.
+use Rattle.std.specs.Prelude.{None, Some}
 use mathlib.Core.Path.{◌≡◌, refl, sym, ap, ◌∙◌}
 use mathlib.Core.List.{List, [], ◌∷◌}
 use mathlib.Core.Logic.{⊎_elim}
@@ -18,10 +19,8 @@ use Rattle.writing.proofs.RowPuts.{row_at_lem}
 use Rattle.readers.specs.Asks.{Readable}
 use Rattle.pivots.proofs.PivotTables.{sources}
 use Rattle.lasts.specs.Asks.{At, Room}
-use Rattle.lasts.specs.Gathers.{size_of, source_of, taken_at, taken, gathered, held}
+use Rattle.lasts.specs.Gathers.{size_of, source_of, taken_at, taken, gathered, held, Last}
 use Rattle.lasts.specs.Lasts.{in_last, last_of}
-use Rattle.lasts.specs.declared.gather.Last.{Last}
-use Rattle.lasts.specs.declared.gather.Last.TheVariants.{Nothing, Value}
 use Rattle.lasts.specs.declared.gather.Order.{Order}
 use Rattle.lasts.specs.declared.gather.Order.TheVariants.{ByRow, Reversed, ByPivot}
 use Rattle.lasts.proofs.Gathering.{Fits}
@@ -79,11 +78,11 @@ module _ {o : Order} {m : Matrix} {pivots : List ℕ} {k : ℕ} (a : At o m pivo
   taken_at_lem = get_or-table (size_of o m.nrows pivots) (taken_at o m pivots) k [] a.within
 
   -- index k, as `last_at` finds it
-  pub found_one : {r : Last} {v : ℕ} → held r k ≡ taken_at o m pivots k → r ≡ Value v → get_or (taken o m pivots) k [] ≡ entry k v ∷ []
+  pub found_one : {r : Last} {v : ℕ} → held r k ≡ taken_at o m pivots k → r ≡ Some v → get_or (taken o m pivots) k [] ≡ entry k v ∷ []
   unfolding held
   found_one q e = taken_at_lem ∙ sym q ∙ ap (λ (x : Last). held x k) e
 
-  pub found_none : {r : Last} → held r k ≡ taken_at o m pivots k → r ≡ Nothing → get_or (taken o m pivots) k [] ≡ []
+  pub found_none : {r : Last} → held r k ≡ taken_at o m pivots k → r ≡ None → get_or (taken o m pivots) k [] ≡ []
   unfolding held
   found_none q e = taken_at_lem ∙ sym q ∙ ap (λ (x : Last). held x k) e
 

@@ -1,23 +1,20 @@
 -- What a call that writes a vector comes to, in the form in which code gives it.
 -- Assumes nothing.
+use Rattle.std.specs.Prelude.{Err, Ok}
 use mathlib.Core.Path.{◌≡◌, ap, ◌∙◌}
 use mathlib.Core.List.{List}
 use Prim.Native.Nat.{ℕ}
 use lib.ListN.{length}
 use Rattle.sparse.specs.Lent.{LentVector, vector_room_test, Outcome, outcome, unless}
-use Rattle.sparse.specs.Put.{putting_vector}
-use Rattle.sparse.specs.Refusals.{◌else◌, lowest}
+use Rattle.sparse.specs.Put.{putting_vector, Built}
+use Rattle.sparse.specs.Refusals.{◌else◌, lowest, Tested}
 use Rattle.sparse.specs.Rows.{Entry}
-use Rattle.sparse.specs.declared.Built.{Built}
-use Rattle.sparse.specs.declared.Built.TheVariants.{Made, Refused as Unmade}
 use Rattle.sparse.specs.declared.Refusal.{Refusal}
-use Rattle.sparse.specs.declared.Tested.{Tested}
-use Rattle.sparse.specs.declared.Tested.TheVariants.{Good, Refused}
 use Rattle.lasts.specs.Gathers.{put_entries}
 
 module _ (es : List Entry) (l : LentVector) where
   -- the tests refused
-  pub vector_refused : {s t : Tested} {r : Refusal} → s ≡ t → s ≡ Refused r → outcome (Unmade r) l ≡ putting_vector t es l
+  pub vector_refused : {s t : Tested} {r : Refusal} → s ≡ t → s ≡ Err r → outcome (Err r) l ≡ putting_vector t es l
   unfolding putting_vector unless lowest ◌else◌
   vector_refused q e = rw (← q, e)
 
@@ -30,11 +27,11 @@ module _ (es : List Entry) (l : LentVector) where
     room_known = q ∙ ap (λ (k : ℕ). vector_room_test k l) many
 
     -- there was no room
-    pub vector_no_room : {r : Refusal} → s ≡ Refused r → outcome (Unmade r) l ≡ putting_vector Good es l
+    pub vector_no_room : {r : Refusal} → s ≡ Err r → outcome (Err r) l ≡ putting_vector (Ok tt) es l
     unfolding putting_vector unless lowest ◌else◌
     vector_no_room e = rw (← room_known, e)
 
     -- there was room, and the entries were written
-    pub vector_made : {l' : LentVector} → s ≡ Good → l' ≡ put_entries es l → outcome (Made n) l' ≡ putting_vector Good es l
+    pub vector_made : {l' : LentVector} → s ≡ Ok tt → l' ≡ put_entries es l → outcome (Ok n) l' ≡ putting_vector (Ok tt) es l
     unfolding putting_vector unless lowest ◌else◌ put_entries
-    vector_made e w = rw (← room_known, e) (λ i. outcome (Made (many i)) (w i))
+    vector_made e w = rw (← room_known, e) (λ i. outcome (Ok (many i)) (w i))

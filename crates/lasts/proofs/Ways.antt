@@ -1,5 +1,6 @@
 -- What is gathered by each order is what its call's definition says.
 -- Assumes nothing.
+use Rattle.std.specs.Prelude.{Ok}
 use mathlib.Core.Path.{◌≡◌, refl, sym, ap, ◌∙◌}
 use mathlib.Core.List.{List, flatten}
 use Prim.Native.Nat.{ℕ, ◌≤◌, ◌<◌}
@@ -9,7 +10,6 @@ use Rattle.lists.proofs.Tables.{table_ext}
 use Rattle.sparse.specs.Matrix.{Matrix}
 use Rattle.sparse.specs.Pivots.{mark}
 use Rattle.sparse.specs.Tests.{well_formed}
-use Rattle.sparse.specs.declared.Tested.TheVariants.{Good}
 use Rattle.sparse.proofs.Cuts.{small}
 use Rattle.sparse.proofs.Firsts.{lowest_good, lowest_skip, lowest_last}
 use Rattle.readers.specs.Asks.{Readable}
@@ -55,20 +55,20 @@ rows_each Reversed rows pivots a = refl
 rows_each ByPivot rows pivots a = absurd (a.no_table refl)
 
 -- past the tests: all indices have a source
-pub rows_sourced : (o : Order) (p : ℕ) (m : Matrix) (pivots : List ℕ) → well_formed 65536 p m ≡ Good → AllRows o → Sourced o m pivots
+pub rows_sourced : (o : Order) (p : ℕ) (m : Matrix) (pivots : List ℕ) → well_formed 65536 p m ≡ Ok tt → AllRows o → Sourced o m pivots
 rows_sourced o p m pivots good rows =
     let r : Readable m = formed_readable 65536 p m good in
     record { whole = r; few = omega (arith, r.few, rows_each o m.nrows pivots rows); table = λ e. absurd (rows.no_table e) }
 
 -- the tests of the table leave those of the matrix
-pub pivot_formed : (p : ℕ) (m : Matrix) (pivots : List ℕ) → table_test p m pivots ≡ Good → well_formed 65536 p m ≡ Good
+pub pivot_formed : (p : ℕ) (m : Matrix) (pivots : List ℕ) → table_test p m pivots ≡ Ok tt → well_formed 65536 p m ≡ Ok tt
 unfolding table_test well_formed
 pivot_formed p m pivots good =
     let a = lowest_good _ _ good in
     let b = lowest_good _ _ a.1 in
     lowest_skip _ a.0 ∙ lowest_skip _ b.0 ∙ sym (lowest_last (sym (lowest_good _ _ (lowest_good _ _ b.1).1).0))
 
-pub pivots_sourced : (p : ℕ) (m : Matrix) (pivots : List ℕ) → table_test p m pivots ≡ Good → Sourced ByPivot m pivots
+pub pivots_sourced : (p : ℕ) (m : Matrix) (pivots : List ℕ) → table_test p m pivots ≡ Ok tt → Sourced ByPivot m pivots
 unfolding table_test size_of
 pivots_sourced p m pivots good =
     let b = lowest_good _ _ (lowest_good _ _ (lowest_good _ _ good).1).1 in

@@ -1,9 +1,8 @@
 -- What the functions of this crate ask of their arguments: what the tests before them have shown.
-use Rattle.std.specs.Prelude.{◌≡◌, List, ℕ, ◌≤◌, ◌<◌, length}
+use Rattle.std.specs.Prelude.{◌≡◌, List, ℕ, ◌≤◌, ◌<◌, length, Ok}
 use Rattle.sparse.specs.Lent.{LentVector}
 use Rattle.sparse.specs.Matrix.{Matrix}
 use Rattle.sparse.specs.Pivots.{pivots_test}
-use Rattle.sparse.specs.declared.Tested.TheVariants.{Good}
 use Rattle.readers.specs.Asks.{Readable}
 use Rattle.lasts.specs.Gathers.{size_of, gathered}
 use Rattle.lasts.specs.declared.gather.Order.{Order}
@@ -13,7 +12,7 @@ use Rattle.lasts.specs.declared.gather.Order.TheVariants.{ByPivot}
 pub record Sourced (o : Order) (m : Matrix) (pivots : List ℕ) : Type 0 where
   pub whole : Readable m
   pub few : size_of o m.nrows pivots ≤ 1024
-  pub table : o ≡ ByPivot → pivots_test m.nrows pivots ≡ Good
+  pub table : o ≡ ByPivot → pivots_test m.nrows pivots ≡ Ok tt
 
 -- one index of them
 pub record At (o : Order) (m : Matrix) (pivots : List ℕ) (k : ℕ) : Type 0 where

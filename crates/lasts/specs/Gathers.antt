@@ -1,5 +1,5 @@
 -- One way to gather all three: each index has a source, a row or the mark.
-use Rattle.std.specs.Prelude.{ℕ, ◌-◌, cond, eqb, length, get_or}
+use Rattle.std.specs.Prelude.{ℕ, ◌-◌, cond, eqb, length, get_or, None, Some, Option}
 use mathlib.Core.List.{List, [], ◌∷◌, flatten}
 use Rattle.lists.specs.Onto.{◌onto◌}
 use Rattle.lists.specs.Table.{table}
@@ -11,8 +11,10 @@ use Rattle.sparse.specs.Rows.{Entry, entry}
 use Rattle.lasts.specs.Lasts.{last_of}
 use Rattle.lasts.specs.declared.gather.Order.{Order}
 use Rattle.lasts.specs.declared.gather.Order.TheVariants.{ByRow, Reversed, ByPivot}
-use Rattle.lasts.specs.declared.gather.Last.{Last}
-use Rattle.lasts.specs.declared.gather.Last.TheVariants.{Nothing, Value}
+
+-- what a row holds in the last column
+abbrev pub Last : Type 0
+Last = Option ℕ
 
 -- how many indices there are
 unfoldable pub size_of : Order → ℕ → List ℕ → ℕ
@@ -40,8 +42,8 @@ gathered o m pivots = flatten (taken o m pivots)
 
 -- what was found, as the entry at index k
 unfoldable pub held : Last → ℕ → List Entry
-held Nothing k = []
-held (Value v) k = entry k v ∷ []
+held None k = []
+held (Some v) k = entry k v ∷ []
 
 -- these entries at the front of lent memory
 unfoldable pub put_entries : List Entry → LentVector → LentVector

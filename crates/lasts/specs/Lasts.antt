@@ -7,10 +7,9 @@ use Rattle.pivots.specs.Tables.{table_test}
 use Rattle.sparse.specs.Lent.{LentVector, Outcome}
 use Rattle.sparse.specs.Matrix.{Matrix}
 use Rattle.sparse.specs.Pivots.{mark}
-use Rattle.sparse.specs.Put.{putting_vector}
+use Rattle.sparse.specs.Put.{putting_vector, Built}
 use Rattle.sparse.specs.Rows.{Entry, entry, row_at}
 use Rattle.sparse.specs.Tests.{well_formed}
-use Rattle.sparse.specs.declared.Built.{Built}
 
 -- the entry of a row in the last of n columns, if it has one, at index k; a stored zero is an entry
 unfoldable pub in_last : ℕ → List Entry → ℕ → List Entry

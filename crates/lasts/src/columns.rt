@@ -11,7 +11,7 @@ ghost use Rattle.lasts.specs.Lasts.{last_column, last_column_rev, last_column_by
 use crate::gather::{Order, gather};
 use pivots::inside::table_test;
 use sparse::inside::well_formed;
-use sparse::{Built, MAX_ENTRIES, Tested};
+use sparse::{MAX_ENTRIES, Refusal};
 
 // The last column, indexed by row; or the lowest of 1 to 6 and 14 that applies, and the memory as
 // it came.
@@ -24,7 +24,7 @@ pub fn last_column(
     values: &[u32],
     out_idcs: &mut [u32],
     out_vals: &mut [u32],
-) -> Built
+) -> Result<usize, Refusal>
     ensures { outcome result (lent_vector out_idcs.new out_vals.new) ≡ last_column p (matrix nrows ncols row_ptrs.now col_idcs.now values.now) (lent_vector out_idcs.old out_vals.old) }
 {
     by_rows(
@@ -50,7 +50,7 @@ pub fn last_column_rev(
     values: &[u32],
     out_idcs: &mut [u32],
     out_vals: &mut [u32],
-) -> Built
+) -> Result<usize, Refusal>
     ensures { outcome result (lent_vector out_idcs.new out_vals.new) ≡ last_column_rev p (matrix nrows ncols row_ptrs.now col_idcs.now values.now) (lent_vector out_idcs.old out_vals.old) }
 {
     by_rows(
@@ -77,14 +77,11 @@ fn by_rows(
     values: &[u32],
     out_idcs: &mut [u32],
     out_vals: &mut [u32],
-) -> Built
+) -> Result<usize, Refusal>
     requires { AllRows order }
     ensures { outcome result (lent_vector out_idcs.new out_vals.new) ≡ putting_vector (well_formed 65536 p (matrix nrows ncols row_ptrs.now col_idcs.now values.now)) (gathered order (matrix nrows ncols row_ptrs.now col_idcs.now values.now) []) (lent_vector out_idcs.old out_vals.old) }
 {
-    let found = well_formed(MAX_ENTRIES, p, nrows, ncols, row_ptrs, col_idcs, values);
-    if let Tested::Refused(why) = found {
-        return Built::Refused(why);
-    }
+    well_formed(MAX_ENTRIES, p, nrows, ncols, row_ptrs, col_idcs, values)?;
     gather(
         order,
         nrows,
@@ -110,13 +107,10 @@ pub fn last_column_by_pivot(
     pivots: &[u32],
     out_idcs: &mut [u32],
     out_vals: &mut [u32],
-) -> Built
+) -> Result<usize, Refusal>
     ensures { outcome result (lent_vector out_idcs.new out_vals.new) ≡ last_column_by_pivot p (matrix nrows ncols row_ptrs.now col_idcs.now values.now) pivots.now (lent_vector out_idcs.old out_vals.old) }
 {
-    let found = table_test(p, nrows, ncols, row_ptrs, col_idcs, values, pivots);
-    if let Tested::Refused(why) = found {
-        return Built::Refused(why);
-    }
+    table_test(p, nrows, ncols, row_ptrs, col_idcs, values, pivots)?;
     gather(
         Order::ByPivot,
         nrows,

@@ -1,10 +1,9 @@
 // Gathering the last column: each index of the vector has a source, a row or nothing.
-ghost use Rattle.std.specs.Prelude.{◌≡◌, ℕ, ◌≤◌, ◌<◌, length};
+ghost use Rattle.std.specs.Prelude.{◌≡◌, ℕ, ◌≤◌, ◌<◌, length, Ok};
 ghost use Rattle.sparse.specs.Lent.{lent_vector, outcome};
 ghost use Rattle.sparse.specs.Matrix.{matrix};
 ghost use Rattle.sparse.specs.Put.{putting_vector};
 ghost use Rattle.sparse.specs.Rows.{entries};
-ghost use Rattle.sparse.specs.declared.Tested.TheVariants.{Good};
 ghost use Rattle.readers.specs.Asks.{Climbing};
 ghost use Rattle.lasts.specs.Asks.{Sourced, At, Room};
 ghost use Rattle.lasts.specs.Gathers.{size_of, source_of, taken_at, gathered, held, put_entries};
@@ -12,7 +11,7 @@ ghost use Rattle.lasts.specs.Lasts.{in_last};
 
 use pivots::inside::MARK;
 use readers::inside::vector_room_test;
-use sparse::{Built, Tested};
+use sparse::Refusal;
 
 // What the vector is indexed by: rows, rows from the last up, or pivot columns.
 #[derive(Clone, Copy)]
@@ -20,13 +19,6 @@ pub enum Order {
     ByRow,
     Reversed,
     ByPivot,
-}
-
-// What a row holds in the last column.
-#[derive(Clone, Copy)]
-pub enum Last {
-    Nothing,
-    Value(u32),
 }
 
 // The last column in an order, written to lent memory; or 14, decided before anything is written.
@@ -40,19 +32,16 @@ pub fn gather(
     pivots: &[u32],
     out_idcs: &mut [u32],
     out_vals: &mut [u32],
-) -> Built
+) -> Result<usize, Refusal>
     requires { Sourced order (matrix nrows ncols row_ptrs.now col_idcs.now values.now) pivots.now }
-    ensures { outcome result (lent_vector out_idcs.new out_vals.new) ≡ putting_vector Good (gathered order (matrix nrows ncols row_ptrs.now col_idcs.now values.now) pivots.now) (lent_vector out_idcs.old out_vals.old) }
+    ensures { outcome result (lent_vector out_idcs.new out_vals.new) ≡ putting_vector (Ok tt) (gathered order (matrix nrows ncols row_ptrs.now col_idcs.now values.now) pivots.now) (lent_vector out_idcs.old out_vals.old) }
 {
     let entries = count_last(order, nrows, ncols, row_ptrs, col_idcs, values, pivots);
-    let room = vector_room_test(entries, out_idcs, out_vals);
-    if let Tested::Refused(why) = room {
-        return Built::Refused(why);
-    }
+    vector_room_test(entries, out_idcs, out_vals)?;
     write_last(
         order, nrows, ncols, row_ptrs, col_idcs, values, pivots, out_idcs, out_vals,
     );
-    Built::Made(entries)
+    Ok(entries)
 }
 
 // How long the vector is.
@@ -80,18 +69,18 @@ fn source(order: Order, nrows: u32, pivots: &[u32], k: u32) -> u32
 }
 
 // The value of a row in the last column: columns climb, so it is the row's last.
-fn last_in(ncols: u32, cols: &[u32], vals: &[u32]) -> Last
+fn last_in(ncols: u32, cols: &[u32], vals: &[u32]) -> Option<u32>
     requires { Climbing ncols cols.now vals.now }
     ensures { (k : ℕ) → held result k ≡ in_last ncols (entries cols.now vals.now) k }
 {
     if cols.len() == 0 {
-        return Last::Nothing;
+        return None;
     }
     let end = cols.len() - 1;
     if cols[end] + 1 != ncols {
-        return Last::Nothing;
+        return None;
     }
-    Last::Value(vals[end])
+    Some(vals[end])
 }
 
 // What goes to index k.
@@ -104,13 +93,13 @@ fn last_at(
     values: &[u32],
     pivots: &[u32],
     k: u32,
-) -> Last
+) -> Option<u32>
     requires { At order (matrix nrows ncols row_ptrs.now col_idcs.now values.now) pivots.now k }
     ensures { held result k ≡ taken_at order (matrix nrows ncols row_ptrs.now col_idcs.now values.now) pivots.now k }
 {
     let row = source(order, nrows, pivots, k);
     if row == MARK {
-        return Last::Nothing;
+        return None;
     }
     let start = row_ptrs[row as usize];
     let stop = row_ptrs[row as usize + 1];
@@ -132,14 +121,11 @@ fn count_last(
 {
     let size = indices(order, nrows, pivots);
     let mut found = 0;
-    let mut k = 0;
-    while k < size {
+    for k in 0..size {
         let last = last_at(order, nrows, ncols, row_ptrs, col_idcs, values, pivots, k);
-        k += 1;
-        let Last::Value(_) = last else {
-            continue;
-        };
-        found += 1;
+        if let Some(_) = last {
+            found += 1;
+        }
     }
     found
 }
@@ -161,16 +147,12 @@ fn write_last(
 {
     let size = indices(order, nrows, pivots);
     let mut at = 0;
-    let mut k = 0;
-    while k < size {
+    for k in 0..size {
         let last = last_at(order, nrows, ncols, row_ptrs, col_idcs, values, pivots, k);
-        let index = k;
-        k += 1;
-        let Last::Value(value) = last else {
-            continue;
-        };
-        out_idcs[at] = index;
-        out_vals[at] = value;
-        at += 1;
+        if let Some(value) = last {
+            out_idcs[at] = k;
+            out_vals[at] = value;
+            at += 1;
+        }
     }
 }

@@ -1,5 +1,6 @@
 -- An account with a ledger: none of its rows is wrong, and its counts are the ledger's.
 -- Assumes nothing.
+use Rattle.std.specs.Prelude.{None, Some}
 use mathlib.Core.Path.{◌≡◌, refl, sym, ap, subst, ◌∙◌}
 use mathlib.Core.Bool.{true, false}
 use mathlib.Core.List.{List, [], ◌∷◌, ◌++◌}
@@ -13,7 +14,6 @@ use lib.Seq.{get_or_at}
 use Rattle.lists.proofs.Find.{any_none}
 use Rattle.sparse.specs.Rows.{Entry, row_at}
 use Rattle.state.specs.State.{u_fault}
-use Rattle.walk.specs.declared.Answer.TheVariants.{Accepted, None}
 use Rattle.steps.specs.History.{at_once, Told, told}
 use Rattle.steps.proofs.Lasts.{up_to}
 use Rattle.telling.specs.Answers.{none, number}
@@ -108,8 +108,8 @@ module _ (a : Account) where
         let b = ledger_balanced (tells_before ts (told es None) tells) rows (omega arith) past in
         rw (long ts (told es None) tells) (spanned_right b es (last_row ts (told es None) tells) (last_answer ts (told es None) tells) walks (omega arith) s)
     ledger_balanced tells rows lines (entered ts k i past es g walks s) =
-        let b = ledger_balanced (tells_before ts (told es (Accepted g)) tells) (omega arith) (omega arith) past in
-        rw (long ts (told es (Accepted g)) tells) (entered_right b es (last_row ts (told es (Accepted g)) tells) g (last_answer ts (told es (Accepted g)) tells) (λ e. omega (arith, s.within)) walks (omega arith) (omega arith) s)
+        let b = ledger_balanced (tells_before ts (told es (Some g)) tells) (omega arith) (omega arith) past in
+        rw (long ts (told es (Some g)) tells) (entered_right b es (last_row ts (told es (Some g)) tells) g (last_answer ts (told es (Some g)) tells) (λ e. omega (arith, s.within)) walks (omega arith) (omega arith) s)
 
 -- where all rows balance, and U and pivots are a state, the check says yes
 pub balanced_account : (a : Account) {m k i : ℕ} → u_fault a.modulus (u_whole a) a.memory.pivots ≡ false → Balanced a m k i → a.rows.nrows ≡ m → (u_whole a).nrows ≡ k → l_count a ≡ i → is_account at_once a ≡ true

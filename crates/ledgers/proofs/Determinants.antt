@@ -1,5 +1,6 @@
 -- The determinant is 0 exactly if its reduction met a None; and the rows that it took.
 -- Assumes nothing.
+use Rattle.std.specs.Prelude.{Err, Ok}
 use mathlib.Core.Path.{◌≡◌, refl, sym, ap, subst, ◌∙◌}
 use mathlib.Core.Logic.{◌↔◌}
 use mathlib.Core.Bool.{Bool, true, false, cond}
@@ -9,11 +10,10 @@ use native.Mathlib.Nat.{mod-eq_of_lt}
 use native.Mathlib.Omega.{arith}
 use lib.Dec.{eqb}
 use lib.ListN.{length}
+use Rattle.sparse.specs.Refusals.{Tested}
 use Rattle.sparse.specs.Lent.{Outcome, outcome, unless}
 use Rattle.sparse.specs.Matrix.{Matrix}
 use Rattle.sparse.specs.Rows.{rows_of}
-use Rattle.sparse.specs.declared.Tested.{Tested}
-use Rattle.sparse.specs.declared.Tested.TheVariants.{Good, Refused as Unfit}
 use Rattle.state.specs.Fresh.{counts}
 use Rattle.state.specs.declared.Counts.{Counts}
 use Rattle.state.specs.declared.Mode.TheVariants.{Full}
@@ -63,7 +63,7 @@ module _ (p : ℕ) (a : Matrix) (o : Lists) where
   abbrev fold : Outcome Reduced Written
   fold = take_rows false true (rows_of a) (outcome (Taken (run 0 c)) (written (restarted Full a.ncols o.memory) []))
 
-  module _ (good : det_test p a o.dense o.memory.u_ptrs o.memory.l_ptrs o.memory.pivots ≡ Good) where
+  module _ (good : det_test p a o.dense o.memory.u_ptrs o.memory.l_ptrs o.memory.pivots ≡ Ok tt) where
     ends : Ends false true (run 0 c) p a.ncols c (restarted Full a.ncols o.memory) [] (rows_of a) fold
     ends = anew_ends (det_anew p a o good) false true (run 0 c)
 
@@ -124,13 +124,13 @@ module _ (p : ℕ) (a : Matrix) (o : Lists) where
 
   -- by the tests and the value
   module _ (v : Valued) where
-    split : {P : Type 0} → (det p a o).answer ≡ Value v → ((good : det_test p a o.dense o.memory.u_ptrs o.memory.l_ptrs o.memory.pivots ≡ Good) → valued_as good fold.answer ≡ Value v → P) → P
+    split : {P : Type 0} → (det p a o).answer ≡ Value v → ((good : det_test p a o.dense o.memory.u_ptrs o.memory.l_ptrs o.memory.pivots ≡ Ok tt) → valued_as good fold.answer ≡ Value v → P) → P
     unfolding det unless determined take_anew take_matrix
     split {P} q f = go (det_test p a o.dense o.memory.u_ptrs o.memory.l_ptrs o.memory.pivots) refl q
       where
         go : (t : Tested) → det_test p a o.dense o.memory.u_ptrs o.memory.l_ptrs o.memory.pivots ≡ t → (unless Refused t o (determined p a.ncols (take_anew false true p Full a w))).answer ≡ Value v → P
-        go (Unfit why) e q = let z : ◌≡◌ {A = ℕ} 0 1 = cc in absurd (omega arith)
-        go Good e q = f e q
+        go (Err why) e q = let z : ◌≡◌ {A = ℕ} 0 1 = cc in absurd (omega arith)
+        go (Ok _) e q = f e q
 
     -- the value is 0 exactly if the reduction ended at a None
     pub det_zero : (det p a o).answer ≡ Value v → (v.value ≡ 0) ↔ ((r : Run) × ((take_anew false true p Full a w).answer ≡ Dependent r))

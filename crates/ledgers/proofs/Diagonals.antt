@@ -1,5 +1,6 @@
 -- Where all rows taken were accepted, L has a row for each, its last entry is in 1..p-1, and the product of these isn't 0 modulo p.
 -- Assumes nothing.
+use Rattle.std.specs.Prelude.{None, Some}
 use mathlib.Core.Path.{◌≡◌, refl, sym, ap, subst, ◌∙◌}
 use mathlib.Core.List.{List, [], ◌∷◌, ◌++◌, map, map-append}
 use Prim.Native.Nat.{ℕ, zero, suc, ◌+◌, ◌-◌, ◌*◌, ◌%◌, ◌≤◌, ◌<◌}
@@ -16,7 +17,6 @@ use Rattle.meaning.proofs.RowLists.{entry_values}
 use Rattle.state.specs.Memory.{Memory}
 use Rattle.state.specs.declared.Counts.{Counts}
 use Rattle.state.specs.declared.Mode.TheVariants.{Full}
-use Rattle.walk.specs.declared.Answer.TheVariants.{Accepted, None}
 use Rattle.steps.specs.History.{Told, told, accepted}
 use Rattle.steps.specs.Rows.{Storable}
 use Rattle.steps.proofs.Lasts.{up_to}
@@ -49,14 +49,14 @@ module _ {p n : ℕ} {b : Books} where
       (omega (arith, f.0), omega (arith, f.1, length-append ts (told es None ∷ [])))
   ledger_few (entered ts k i past es g walks s) =
       let f = ledger_few past in
-      (omega (arith, f.0), omega (arith, f.1, length-append ts (told es (Accepted g) ∷ [])))
+      (omega (arith, f.0), omega (arith, f.1, length-append ts (told es (Some g) ∷ [])))
 
   ledger_closed : {ts : List Told} {k i : ℕ} → Ledger p n b ts k i → k ≡ length ts → (i ≡ k) × ((r : ℕ) → r < i → Closed p (b.line r))
   ledger_closed empty e = (refl, λ r h. absurd (not-suc-le-zero h))
   ledger_closed (spared ts k i past es once) e = absurd (omega (arith, (ledger_few past).0, (ledger_few past).1, length-append ts (told es None ∷ [])))
   ledger_closed (spanned ts k i past es walks s) e = absurd (omega (arith, (ledger_few past).0, (ledger_few past).1, length-append ts (told es None ∷ [])))
   ledger_closed (entered ts k i past es g walks s) e =
-      let f = ledger_closed past (omega (arith, length-append ts (told es (Accepted g) ∷ []))) in
+      let f = ledger_closed past (omega (arith, length-append ts (told es (Some g) ∷ []))) in
       let here : Closed p (b.line i) = record { before = s.before; number = k; diagonal = s.diagonal; value = s.value; last = s.last } in
       (ap (λ (x : ℕ). x + 1) f.0, λ r h. up_to (λ x. Closed p (b.line x)) i here f.1 r (omega arith))
 

@@ -1,5 +1,6 @@
 -- The rows taken, each with what the account check asks of it, by U's rows, their heads, and L's rows.
 -- Assumes nothing.
+use Rattle.std.specs.Prelude.{None, Some}
 use mathlib.Core.Path.{◌≡◌, sym, ap, subst, ◌∙◌}
 use mathlib.Core.Bool.{true, false}
 use mathlib.Core.List.{List, [], ◌∷◌, ◌++◌, map}
@@ -7,7 +8,6 @@ use Prim.Native.Nat.{ℕ, ◌+◌, ◌%◌, ◌≤◌, ◌<◌}
 use native.Mathlib.Omega.{arith}
 use lib.ListN.{length, get_or, length-map}
 use Rattle.sparse.specs.Rows.{Entry, entry}
-use Rattle.walk.specs.declared.Answer.TheVariants.{Accepted, None}
 use Rattle.steps.specs.History.{at_once, Told, told}
 use Rattle.steps.specs.Rows.{value_of, entry_at, Each, Storable, LRow, times}
 use Rattle.steps.proofs.Entries.{each_more, map_at, times_same}
@@ -42,7 +42,7 @@ pub data Ledger (p n : ℕ) (b : Books) : List Told → ℕ → ℕ → Type 0 w
   empty : Ledger p n b [] 0 0
   spared : (ts : List Told) (k i : ℕ) → Ledger p n b ts k i → (es : List Entry) → at_once n k es ≡ true → Ledger p n b (ts ++ (told es None ∷ [])) k i
   spanned : (ts : List Told) (k i : ℕ) → Ledger p n b ts k i → (es : List Entry) → at_once n k es ≡ false → Spanned p n k b es (b.line i) → Ledger p n b (ts ++ (told es None ∷ [])) k (i + 1)
-  entered : (ts : List Told) (k i : ℕ) → Ledger p n b ts k i → (es : List Entry) (g : ℕ) → at_once n k es ≡ false → Entered p n k g b es (b.line i) → Ledger p n b (ts ++ (told es (Accepted g) ∷ [])) (k + 1) (i + 1)
+  entered : (ts : List Told) (k i : ℕ) → Ledger p n b ts k i → (es : List Entry) (g : ℕ) → at_once n k es ≡ false → Entered p n k g b es (b.line i) → Ledger p n b (ts ++ (told es (Some g) ∷ [])) (k + 1) (i + 1)
 
 -- other books that say the same of U's first k rows and of L's first i
 pub record Alike (n k i : ℕ) (b d : Books) : Type 0 where

@@ -1,5 +1,6 @@
 -- L in memory, with values: its rows stay where a row is added, and the new row is the last.
 -- Assumes nothing.
+use Rattle.std.specs.Prelude.{Ok}
 use mathlib.Core.Path.{◌≡◌, ap, ap₂, subst, ◌∙◌}
 use mathlib.Core.Bool.{true, false}
 use mathlib.Core.List.{List, []}
@@ -9,7 +10,6 @@ use lib.ListN.{length, get_or, length-map}
 use Rattle.sparse.specs.Matrix.{row}
 use Rattle.sparse.specs.Put.{cols_of, values_of}
 use Rattle.sparse.specs.Rows.{Entry, entries}
-use Rattle.sparse.specs.declared.Tested.TheVariants.{Good}
 use Rattle.meaning.proofs.RowLists.{entries_of_lem}
 use Rattle.state.specs.Fresh.{keeps}
 use Rattle.state.specs.Memory.{Memory}
@@ -42,7 +42,7 @@ module _ (c : Counts) (m : Memory) (s : Stands c (lists m [])) (full : c.mode �
   l_long = full_long c m.l_cols m.l_vals m.l_ptrs (stands_inverts c (lists m []) s).least sound
 
   -- one row more
-  module _ (room : room_test c m ≡ Good) (es : List Entry) (few : length es ≤ c.rank + 1) where
+  module _ (room : room_test c m ≡ Ok tt) (es : List Entry) (few : length es ≤ c.rank + 1) where
     abbrev l : Lower
     l = lower_of m
 

@@ -1,5 +1,6 @@
 -- The notebook modulo 7 as our own account: N1 to N5, taken by `from_matrix`, leave the account that the check's notebook says yes to.
 -- Assumes nothing.
+use Rattle.std.specs.Prelude.{None, Some}
 use mathlib.Core.Path.{◌≡◌, refl}
 use mathlib.Core.Bool.{false}
 use mathlib.Core.List.{List, [], ◌∷◌, flatten}
@@ -23,7 +24,6 @@ use Rattle.state.specs.Room.{u_full, pattern_full, l_full, room_test}
 use Rattle.state.specs.declared.Counts.{Counts}
 use Rattle.state.specs.declared.Mode.TheVariants.{Full}
 use Rattle.walk.specs.Step.{upper, pivot_at, is_none, subtract, accept, stopped, at, climb, divided, ended, start, walked, copied, direct, step}
-use Rattle.walk.specs.declared.Answer.TheVariants.{Accepted, None}
 use Rattle.steps.specs.History.{at_once, Told, told}
 use Rattle.taking.specs.Stores.{with_u, with_l, kept_entries}
 use Rattle.writing.specs.Puts.{put_at}
@@ -56,10 +56,10 @@ after = counts Full 7 3 3 5 4 6
 -- the rows taken and their answers
 abbrev ts : List Told
 ts =
-    told (entry 0 2 ∷ entry 1 4 ∷ []) (Accepted 0)
-    ∷ told (entry 0 3 ∷ entry 1 6 ∷ entry 2 5 ∷ []) (Accepted 2)
+    told (entry 0 2 ∷ entry 1 4 ∷ []) (Some 0)
+    ∷ told (entry 0 3 ∷ entry 1 6 ∷ entry 2 5 ∷ []) (Some 2)
     ∷ told (entry 0 1 ∷ entry 1 2 ∷ entry 2 6 ∷ []) None
-    ∷ told (entry 1 3 ∷ entry 2 1 ∷ []) (Accepted 1)
+    ∷ told (entry 1 3 ∷ entry 2 1 ∷ []) (Some 1)
     ∷ told (entry 0 1 ∷ []) None
     ∷ []
 

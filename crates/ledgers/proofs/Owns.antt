@@ -1,5 +1,6 @@
 -- Our own account: its rows and answers are those taken, and its U and L are those in memory.
 -- Assumes nothing.
+use Rattle.std.specs.Prelude.{None}
 use mathlib.Core.Path.{◌≡◌, refl, sym, ap, ap₂, ◌∙◌}
 use mathlib.Core.Bool.{false}
 use mathlib.Core.List.{List, [], ◌∷◌, map}
@@ -17,7 +18,6 @@ use Rattle.state.specs.declared.Counts.{Counts}
 use Rattle.state.specs.declared.Mode.TheVariants.{Full}
 use Rattle.state.proofs.Faults.{Held, lost_none, held}
 use Rattle.walk.specs.Step as S
-use Rattle.walk.specs.declared.Answer.TheVariants.{None}
 use Rattle.steps.specs.History.{Told, told}
 use Rattle.stepping.specs.Asks.{Stands}
 use Rattle.stepping.specs.Take.{lists, lower_of}

@@ -1,6 +1,6 @@
 -- A test decides a statement: true where it holds, false where it doesn't.
 -- Assumes nothing.
-use mathlib.Core.Path.{◌≡◌, refl, sym}
+use mathlib.Core.Path.{◌≡◌, refl}
 use mathlib.Core.Logic.{◌⊎◌, inl, inr}
 use mathlib.Core.Bool.{Bool, true, false, not, ◌&&◌, ◌||◌, true≢false, false≢true}
 use Prim.Native.Nat.{ℕ, ◌≤◌, ◌<◌}

@@ -1,15 +1,14 @@
 -- Gathering: what a loop that gathers has at each turn, and what is made of each element.
 -- Assumes nothing.
-use mathlib.Core.Path.{◌≡◌, refl, sym, ap, ap₂, ◌∙◌}
+use mathlib.Core.Path.{◌≡◌, refl, ap, ap₂, ◌∙◌}
 use mathlib.Core.Bool.{Bool, true, false, cond}
 use mathlib.Core.List.{List, [], ◌∷◌, ◌++◌, map, map-append, append-nil}
-use Prim.Native.Nat.{ℕ, zero, suc, ◌+◌, ◌≤◌, ◌<◌}
+use Prim.Native.Nat.{ℕ, zero, suc, ◌≤◌, ◌<◌}
 use native.Mathlib.Decide.{dec_lt, le_ind}
 use native.Mathlib.Omega.{arith}
-use lib.ListN.{length, set, length-append}
+use lib.ListN.{length, length-append}
 use Rattle.lists.specs.Find.{keep}
 use Rattle.lists.specs.Gather.{gather}
-use Rattle.lists.specs.Onto.{◌onto◌}
 use Rattle.lists.specs.Table.{table}
 
 module _ {ℓ} {A : Type ℓ} where

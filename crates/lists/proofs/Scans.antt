@@ -1,17 +1,16 @@
 -- Loops that look for something, or count: what they know at each turn.
 -- Assumes nothing.
-use mathlib.Core.Path.{◌≡◌, refl, sym, ap, subst, ◌∙◌}
-use mathlib.Core.Bool.{Bool, true, false, not, cond, ◌&&◌, ◌||◌, true≢false}
-use mathlib.Core.List.{List, [], ◌∷◌, ◌++◌}
+use mathlib.Core.Path.{◌≡◌, refl, sym, ap, ◌∙◌}
+use mathlib.Core.Bool.{Bool, true, false, cond, ◌&&◌, ◌||◌, true≢false}
+use mathlib.Core.List.{List, [], ◌∷◌}
 use Prim.Native.Nat.{ℕ, zero, suc, ◌+◌, ◌≤◌, ◌<◌}
-use native.Mathlib.Nat.{not-suc-le-zero}
 use native.Mathlib.Numerals.{add-one}
 use native.Mathlib.Omega.{arith}
 use lib.ListN.{length, get_or, take}
 use lib.Seq.{take-suc, take_all, length-take-le}
 use Rattle.lists.specs.Find.{any, count, keep}
 use Rattle.lists.proofs.Counts.{count_append, count_le}
-use Rattle.lists.proofs.Find.{any_true, any_none, told}
+use Rattle.lists.proofs.Find.{any_true}
 
 -- none of the first k passes
 pub record Clear (n : ℕ) (f : ℕ → Bool) (k : ℕ) : Type 0 where

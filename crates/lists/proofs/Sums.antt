@@ -1,11 +1,11 @@
 -- Finite sums: termwise, a common factor, two sums exchanged, single terms, remainders.
 -- Assumes nothing.
 use mathlib.Core.Path.{◌≡◌, refl, sym, ap, ◌∙◌}
-use Prim.Native.Nat.{ℕ, zero, suc, ◌+◌, ◌*◌, ◌%◌, ◌≤◌, ◌<◌}
-use native.Mathlib.Nat.{le_refl, not-suc-le-zero, add-zero, zero-add, mul-add, mul-zero, add_assoc, add_comm, add_left_comm, add-suc, add-mod, mod-mod, mod-add-mod, add-mod-mod}
+use Prim.Native.Nat.{ℕ, zero, suc, ◌+◌, ◌*◌, ◌%◌, ◌<◌}
+use native.Mathlib.Nat.{le_refl, not-suc-le-zero, add-zero, zero-add, mul-add, mul-zero, add_assoc, add_comm, add-suc, add-mod, mod-mod}
 use native.Mathlib.Decide.{dec_lt, ℕ_discrete}
 use native.Mathlib.Omega.{arith}
-use mathlib.Core.Bool.{Bool, true, false, cond}
+use mathlib.Core.Bool.{cond}
 use lib.Dec.{eqb}
 use borrow.Author.Tests.{eq-eqb, ne_eqb}
 use Rattle.lists.specs.Sum.{Σ}

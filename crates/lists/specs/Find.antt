@@ -1,5 +1,5 @@
 -- Looking through the numbers below n, and through a list.
-use Rattle.std.specs.Prelude.{ℕ, zero, suc, ◌+◌, Bool, true, false, cond, ◌||◌, List, [], ◌∷◌}
+use Rattle.std.specs.Prelude.{ℕ, zero, suc, ◌+◌, Bool, false, cond, ◌||◌, List, [], ◌∷◌}
 
 -- f holds of some number below n
 unfoldable pub any : ℕ → (ℕ → Bool) → Bool

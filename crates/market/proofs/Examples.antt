@@ -1,12 +1,12 @@
 -- Worked examples: texts that are read, and texts that are refused.
 -- Assumes nothing.
+use Rattle.std.specs.Prelude.{Err, Ok}
 use mathlib.Core.Path.{◌≡◌, refl}
 use mathlib.Core.List.{List, [], ◌∷◌, ◌++◌, map, flatten}
 use Prim.Native.Nat.{ℕ}
 use lib.ListN.{replicate}
 use Rattle.sparse.specs.Refusals.{refuse, lowest, ◌else◌}
 use Rattle.sparse.specs.declared.Refusal.TheVariants.{Size, Value, Zero, Outside, Order, Text}
-use Rattle.sparse.specs.declared.Tested.TheVariants.{Good, Refused}
 use Rattle.text.specs.Decimals.{glyph, digits, decimal}
 use Rattle.triplets.specs.Triplets.{triplet, before}
 use Rattle.market.specs.Grammar.{feed, space, percent, banner}
@@ -42,7 +42,7 @@ pub judged : map (λ ls. market_test (text ls))
     ∷ (three 2 2 2 ∷ three 1 1 5 ∷ three 1 1 6 ∷ [])
     ∷ (three 65 2 1 ∷ three 5 5 0 ∷ [])
     ∷ [])
-    ≡ Good ∷ Good ∷ Refused Zero ∷ Refused Value ∷ Refused Outside ∷ Refused Outside ∷ Refused Order ∷ Refused Size ∷ []
+    ≡ Ok tt ∷ (Ok tt) ∷ Err Zero ∷ Err Value ∷ Err Outside ∷ Err Outside ∷ Err Order ∷ Err Size ∷ []
 unfolding text three banner feed space percent glyph digits decimal flatten market whole size_line lines line decimal_to decimal_on uncomment past ◌then◌ market_test read_test entries_test lowest ◌else◌ refuse some outside rises before modulus
 judged = refl
 
@@ -59,6 +59,6 @@ pub refused : map market_test
     ∷ text (three 1 1 1 ∷ (percent ∷ []) ∷ three 1 1 5 ∷ [])
     ∷ (three 1 1 0 ++ feed ∷ [])
     ∷ [])
-    ≡ replicate 9 (Refused Text)
+    ≡ replicate 9 (Err Text)
 unfolding text three banner feed space percent glyph digits decimal flatten market whole size_line lines line decimal_to decimal_on uncomment past ◌then◌ market_test read_test
 refused = refl

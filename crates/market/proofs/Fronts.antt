@@ -1,15 +1,16 @@
 -- The first line and the comments, byte by byte.
--- Assumes nothing.
-use mathlib.Core.Path.{◌≡◌, refl, sym}
-use mathlib.Core.Bool.{Bool, true, false, not}
-use mathlib.Core.List.{List, ◌∷◌}
-use Prim.Native.Nat.{ℕ, ◌+◌, ◌≤◌, ◌<◌}
-use native.Mathlib.Omega.{arith}
+use mathlib.Core.Path.{◌≡◌, refl, sym, ◌∙◌}
+use mathlib.Core.Bool.{Bool, true, false, not, ◌&&◌}
+use mathlib.Core.List.{List, [], ◌∷◌}
+use Prim.Native.Nat.{ℕ, suc, ◌+◌, ◌≤◌, ◌<◌}
+use native.Mathlib.Decide.{ℕ_discrete}
 use lib.Dec.{eqb}
-use lib.ListN.{length, drop, get_or}
+use lib.ListN.{length, take, drop, get_or}
 use borrow.Author.Tests.{eq-eqb, ne_eqb}
+use Rattle.std.specs.Cmp.Lexicographic.{pointwise}
 use Rattle.market.specs.Grammar.{feed, percent}
-use Rattle.market.specs.Parse.{nothing, got, past, uncomment}
+use Rattle.market.specs.Parse.{nothing, past, uncomment}
+use Rattle.market.specs.Places.{front_read}
 use Rattle.market.proofs.Places.{byte_at, none_left}
 
 -- one byte of a front
@@ -17,29 +18,22 @@ pub past_turn : (f b : ℕ) (fs bs : List ℕ) {x : Bool} → eqb b f ≡ x → 
 unfolding past
 past_turn f b fs bs e = λ i. elim (e i) [ true ↦ past fs bs | false ↦ nothing ]
 
-module _ (front text : List ℕ) (i : ℕ) where
-  module _ (l : i < length front) where
-    -- the text is shorter than the front,
-    pub front_short : length text ≤ i → past (drop i front) (drop i text) ≡ nothing
-    unfolding past
-    front_short s = rw (byte_at front i l, none_left text i s)
+-- whether the text starts with the front, as std tells it
+further : (b : ℕ) (bs : List ℕ) (n : ℕ) (x : Bool) → front_read (b ∷ bs) (suc n) x ≡ front_read bs n x
+unfolding front_read
+further b bs n true = refl
+further b bs n false = refl
 
-    module _ (s : i < length text) where
-      here : {x : Bool} → eqb (get_or text i 0) (get_or front i 0) ≡ x → past (drop i front) (drop i text) ≡ elim x [ true ↦ past (drop (i + 1) front) (drop (i + 1) text) | false ↦ nothing ]
-      here e = rw (byte_at front i l, byte_at text i s) (past_turn _ _ _ _ e)
-
-      -- or differs from it,
-      pub front_differs : (get_or text i 0 ≡ get_or front i 0 → ⊥) → past (drop i front) (drop i text) ≡ nothing
-      front_differs e = here (ne_eqb _ _ e)
-
-      -- or goes on like it,
-      pub front_more : get_or text i 0 ≡ get_or front i 0 → past (drop i front) (drop i text) ≡ past (drop (i + 1) front) (drop (i + 1) text)
-      front_more e = here (eq-eqb _ _ e)
-
-  -- or has it whole
-  pub front_whole : length front ≤ i → i ≤ length front → past (drop i front) (drop i text) ≡ got true (drop (length front) text)
-  unfolding past
-  front_whole a z = let e : i ≡ length front = omega arith in rw (none_left front i a, e)
+pub front_starts : (front text : List ℕ) → front_read text (length front) (pointwise eqb front (take (length front) text)) ≡ past front text
+unfolding front_read past
+front_starts [] text = refl
+front_starts (f ∷ fs) [] = refl
+front_starts (f ∷ fs) (b ∷ bs) = go (ℕ_discrete f b) (front_starts fs bs)
+  where
+    go : Dec (f ≡ b) → front_read bs (length fs) (pointwise eqb fs (take (length fs) bs)) ≡ past fs bs
+        → front_read (b ∷ bs) (suc (length fs)) (eqb f b && pointwise eqb fs (take (length fs) bs)) ≡ past (f ∷ fs) (b ∷ bs)
+    go (yes e) ih = rw (eq-eqb f b e) (further b bs (length fs) _ ∙ ih ∙ sym (past_turn f b fs bs (eq-eqb b f (sym e))))
+    go (no ne) ih = rw (ne_eqb f b ne) (sym (past_turn f b fs bs (ne_eqb b f (λ e. ne (sym e)))))
 
 -- one byte of comments: within one,
 pub within_turn : (b : ℕ) (bs : List ℕ) → uncomment true (b ∷ bs) ≡ uncomment (not (eqb b feed)) bs

@@ -1,10 +1,9 @@
 -- A number read digit by digit: what the loop knows at its head, and what each turn comes to.
--- Assumes nothing.
 use mathlib.Core.Path.{◌≡◌, refl, sym, ◌∙◌}
 use mathlib.Core.Bool.{Bool, true, false, ◌&&◌}
 use mathlib.Core.List.{List, ◌∷◌}
 use Prim.Native.Nat.{ℕ, ◌+◌, ◌-◌, ◌*◌, ◌^◌, ◌≤◌, ◌<◌}
-use native.Mathlib.Nat.{pow-suc, pow-le-pow_right}
+use native.Mathlib.Nat.{pow-suc}
 use native.Mathlib.Numerals.{add-one}
 use native.Mathlib.Omega.{arith}
 use lib.Dec.{leb, ltb, eqb}
@@ -32,12 +31,6 @@ unfolding decimal_on
 decimal_turn stop k n b bs e f g = λ i. elim (e i) [ true ↦ elim (f i) [ true ↦ nothing | false ↦ got n bs ] | false ↦ elim (g i) [ true ↦ decimal_on stop (k + 1) (n * 10 + (b - 48)) bs | false ↦ nothing ] ]
 
 module _ {text : List ℕ} {stop at value i : ℕ} (h : Digiting text stop at value i) where
-  -- the number fits
-  pub digits_small : value < 10000000000
-  digits_small =
-      let most : 10 ^ h.many ≤ 10 ^ 10 = pow-le-pow_right (omega arith) h.few in
-      omega (arith, h.small)
-
   -- the text ends before the number does
   pub digits_end : length text ≤ i → nothing ≡ decimal_to stop (drop at text)
   unfolding decimal_on

@@ -1,5 +1,6 @@
 -- The entries tested in one pass over their lines: what each turn comes to, and that the verdict is `market_test`'s.
 -- Assumes nothing.
+use Rattle.std.specs.Prelude.{Err, None, Some, Option}
 use mathlib.Core.Path.{◌≡◌, refl, sym, ap, ◌∙◌}
 use mathlib.Core.Bool.{Bool, true, false, not, ◌&&◌, ◌||◌, or-false, or_assoc}
 use mathlib.Core.List.{List, [], ◌∷◌}
@@ -8,21 +9,15 @@ use native.Mathlib.Omega.{arith}
 use lib.Dec.{leb, ltb, eqb}
 use lib.ListN.{length, drop}
 use borrow.Author.Tests.{lt-ltb, le-ltb}
-use Rattle.sparse.specs.Refusals.{lowest, refuse}
+use Rattle.sparse.specs.Refusals.{lowest, refuse, Tested}
 use Rattle.sparse.specs.declared.Refusal.TheVariants.{Size, Value, Zero, Outside, Order, Text}
-use Rattle.sparse.specs.declared.Tested.{Tested}
-use Rattle.sparse.specs.declared.Tested.TheVariants.{Refused}
 use Rattle.triplets.specs.Triplets.{Triplet, triplet, before}
-use Rattle.market.specs.Faults.{none, note, note_all, oversize, verdict_of, walk_on, walk_read}
+use Rattle.market.specs.Faults.{none, note, note_all, oversize, verdict_of, walk_on, walk_read, Walked}
 use Rattle.market.specs.Parse.{Read, nothing, got, ◌then◌, line, lines, size_line, market_of, whole, market}
 use Rattle.market.specs.Places.{line_read}
 use Rattle.market.specs.Tests.{modulus, some, outside, rises, entries_test, read_test, market_test}
-use Rattle.market.specs.declared.lines.Line.{Line}
-use Rattle.market.specs.declared.lines.Line.TheVariants.{Three, Other}
 use Rattle.market.specs.declared.lines.Numbers.{Numbers}
 use Rattle.market.specs.declared.tests.Faults.{Faults}
-use Rattle.market.specs.declared.tests.Walked.{Walked}
-use Rattle.market.specs.declared.tests.Walked.TheVariants.{Whole, Broken}
 use Rattle.market.proofs.Heads.{lines_length}
 use Rattle.market.proofs.Places.{byte_at, none_left}
 
@@ -31,14 +26,14 @@ pub one_more : (k : ℕ) → 0 < k → k ≡ suc (k - 1)
 one_more k h = omega arith
 
 module _ (nrows ncols : ℕ) (f : Faults) (text : List ℕ) (at left : ℕ) where
-  module _ (l : 0 < left) {r : Line} (read : line_read text r ≡ line (drop at text)) where
+  module _ (l : 0 < left) {r : Option Numbers} (read : line_read text r ≡ line (drop at text)) where
     -- a line is none,
-    pub walk_broken : r ≡ Other → walk_on nrows ncols f left (drop at text) ≡ nothing
+    pub walk_broken : r ≡ None → walk_on nrows ncols f left (drop at text) ≡ nothing
     unfolding walk_on lines ◌then◌ line_read
     walk_broken e = rw (one_more left l, ← read, e)
 
     -- or it is an entry more,
-    pub walk_more : {t : Numbers} → r ≡ Three t
+    pub walk_more : {t : Numbers} → r ≡ Some t
         → walk_on nrows ncols f left (drop at text) ≡ walk_on nrows ncols (note nrows ncols f (triplet t.row t.col t.value)) (left - 1) (drop t.next text)
     unfolding walk_on lines note_all ◌then◌ line_read
     walk_more {t} e = ap (λ (k : ℕ). walk_on nrows ncols f k (drop at text)) (one_more left l) ∙ rw (← read, e) (go (lines (left - 1) (drop t.next text)))
@@ -109,7 +104,7 @@ module _ (nrows ncols : ℕ) where
 
   -- what is answered after a pass
   unfoldable pub passed : ℕ → Read Faults → Tested
-  passed k nothing = Refused Text
+  passed k nothing = Err Text
   passed k (got f later) = verdict_of nrows ncols k f
 
   pub pass_tests : (k : ℕ) (bs : List ℕ) → read_test (whole (lines k bs then λ ts end. got (market_of nrows ncols ts) end)) ≡ passed k (whole (walk_on nrows ncols none k bs))
@@ -128,31 +123,31 @@ unfolding market
 market_turn text e = λ i. elim (e i) [ true ↦ nothing | false ↦ whole (size_line text then λ s later. lines s.value later then λ ts end. got (market_of s.row s.col ts) end) ]
 
 -- a text is too long,
-pub test_long : (text : List ℕ) → 32768 < length text → Refused Text ≡ market_test text
+pub test_long : (text : List ℕ) → 32768 < length text → Err Text ≡ market_test text
 unfolding market_test read_test
 test_long text h = ap read_test (sym (market_turn text (lt-ltb _ _ h)))
 
-module _ (text : List ℕ) (short : length text ≤ 32768) (l : Line) (size : line_read text l ≡ size_line text) where
+module _ (text : List ℕ) (short : length text ≤ 32768) (l : Option Numbers) (size : line_read text l ≡ size_line text) where
   sizing : market_test text ≡ read_test (whole (line_read text l then λ s later. lines s.value later then λ ts end. got (market_of s.row s.col ts) end))
   unfolding market_test
   sizing = ap read_test (market_turn text (le-ltb _ _ short)) ∙ rw size
 
   -- or has no size line,
-  pub test_sizeless : l ≡ Other → Refused Text ≡ market_test text
+  pub test_sizeless : l ≡ None → Err Text ≡ market_test text
   unfolding line_read ◌then◌ whole read_test
   test_sizeless e = sym (rw e at sizing)
 
-  module _ {s : Numbers} (has : l ≡ Three s) (w : Walked) (walked : walk_read w ≡ whole (walk_on s.row s.col none s.value (drop s.next text))) where
+  module _ {s : Numbers} (has : l ≡ Some s) (w : Walked) (walked : walk_read w ≡ whole (walk_on s.row s.col none s.value (drop s.next text))) where
     walking : market_test text ≡ passed s.row s.col s.value (walk_read w)
     unfolding line_read ◌then◌
     walking = (rw has at sizing) ∙ pass_tests s.row s.col s.value (drop s.next text) ∙ ap (passed s.row s.col s.value) (sym walked)
 
     -- or not the lines that it says, or something after them,
-    pub test_broken : w ≡ Broken → Refused Text ≡ market_test text
+    pub test_broken : w ≡ None → Err Text ≡ market_test text
     unfolding passed walk_read
     test_broken e = sym (rw e at walking)
 
     -- or is a text with its faults
-    pub test_whole : {f : Faults} → w ≡ Whole f → verdict_of s.row s.col s.value f ≡ market_test text
+    pub test_whole : {f : Faults} → w ≡ Some f → verdict_of s.row s.col s.value f ≡ market_test text
     unfolding passed walk_read
     test_whole e = sym (rw e at walking)

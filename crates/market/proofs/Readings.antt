@@ -1,5 +1,6 @@
 -- Entries that have passed the tests, written one by one.
 -- Assumes nothing.
+use Rattle.std.specs.Prelude.{None, Ok, Some, Option}
 use mathlib.Core.Path.{◌≡◌, refl, sym, ap, ◌∙◌}
 use mathlib.Core.Bool.{false}
 use mathlib.Core.List.{List, [], ◌∷◌, ◌++◌, map, map-append, append-nil}
@@ -11,15 +12,12 @@ use lib.Seq.{append_snoc}
 use borrow.Author.Tests.{ltb-false, leb-false, eqb-false}
 use Rattle.lists.specs.Onto.{◌onto◌}
 use Rattle.lists.proofs.Ontos.{onto_nil, onto_more, length-onto}
-use Rattle.sparse.specs.declared.Tested.TheVariants.{Good}
 use Rattle.sparse.proofs.Firsts.{refuse_good, lowest_good, neither}
 use Rattle.triplets.specs.Triplets.{Triplet, triplet}
 use Rattle.market.specs.Asks.{rows_in, cols_in, values_in, Entries, Listed}
 use Rattle.market.specs.Parse.{got, line, lines}
 use Rattle.market.specs.Places.{line_read, listed}
 use Rattle.market.specs.Tests.{modulus, some, outside, entries_test}
-use Rattle.market.specs.declared.lines.Line.{Line}
-use Rattle.market.specs.declared.lines.Line.TheVariants.{Three, Other}
 use Rattle.market.specs.declared.lines.Numbers.{Numbers}
 use Rattle.market.proofs.Heads.{Tail, lines_tail, lines_first, lines_length}
 use Rattle.market.proofs.Passes.{one_more}
@@ -61,7 +59,7 @@ fits nrows ncols rs cs (t ∷ ts) v o =
     one (fitted nrows ncols rs cs t vs.0 os.0) (fits nrows ncols rs cs ts vs.1 os.1)
 
 -- entries that have passed fit
-pub passed_fits : (nrows ncols : ℕ) (ts : List Triplet) → entries_test nrows ncols ts ≡ Good → Fitting ts
+pub passed_fits : (nrows ncols : ℕ) (ts : List Triplet) → entries_test nrows ncols ts ≡ Ok tt → Fitting ts
 unfolding entries_test
 passed_fits nrows ncols ts e =
     let sizes = lowest_good _ _ e in
@@ -146,13 +144,13 @@ module _ (text : List ℕ) (ts : List Triplet) (rows₀ cols₀ vals₀ : List �
   reading : 0 < left → lines (suc (left - 1)) (drop next text) ≡ got h.rest []
   reading l = rw (one_more left l) at h.read
 
-  module _ (l : 0 < left) {r : Line} (found : line_read text r ≡ line (drop next text)) where
+  module _ (l : 0 < left) {r : Option Numbers} (found : line_read text r ≡ line (drop next text)) where
     -- each of them is a line,
-    pub reading_line : r ≡ Other → ⊥
+    pub reading_line : r ≡ None → ⊥
     unfolding line_read
     reading_line e = lines_first (left - 1) (drop next text) (reading l) (sym found ∙ rw e)
 
-    module _ {n : Numbers} (e : r ≡ Three n) where
+    module _ {n : Numbers} (e : r ≡ Some n) where
       tail : Tail (triplet n.row n.col n.value) (left - 1) (drop n.next text) h.rest []
       unfolding line_read
       tail = lines_tail (left - 1) (drop next text) (sym found ∙ rw e) (reading l)

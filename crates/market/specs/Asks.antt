@@ -1,7 +1,6 @@
 -- What writing entries asks for, and what it leaves.
-use Rattle.std.specs.Prelude.{◌≡◌, List, [], map, ℕ, ◌-◌, ◌≤◌, length, drop}
+use Rattle.std.specs.Prelude.{◌≡◌, List, [], map, ℕ, ◌-◌, ◌≤◌, length, drop, Ok}
 use Rattle.lists.specs.Onto.{◌onto◌}
-use Rattle.sparse.specs.declared.Tested.TheVariants.{Good}
 use Rattle.triplets.specs.Triplets.{Triplet, triplet}
 use Rattle.market.specs.Parse.{got, lines}
 use Rattle.market.specs.Tests.{entries_test}
@@ -24,7 +23,7 @@ values_in ts = map (λ t. t.value) ts
 pub record Entries (text : List ℕ) (count place : ℕ) (ts : List Triplet) (rows cols vals : List ℕ) : Type 0 where
   pub nrows : ℕ
   pub ncols : ℕ
-  pub good : entries_test nrows ncols ts ≡ Good
+  pub good : entries_test nrows ncols ts ≡ Ok tt
   pub read : lines count (drop place text) ≡ got ts []
   pub row_room : count ≤ length rows
   pub col_room : count ≤ length cols

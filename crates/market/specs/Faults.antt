@@ -1,14 +1,15 @@
 -- The tests of the entries in one pass over their lines. That this is `market_test` is proofs/Passes.antt's `pass_tests`.
-use Rattle.std.specs.Prelude.{Bool, false, not, ◌||◌, List, [], ◌∷◌, ℕ, leb, ltb, eqb}
-use Rattle.sparse.specs.Refusals.{refuse, lowest}
+use Rattle.std.specs.Prelude.{Bool, false, not, ◌||◌, List, [], ◌∷◌, ℕ, leb, ltb, eqb, None, Some, Option}
+use Rattle.sparse.specs.Refusals.{refuse, lowest, Tested}
 use Rattle.sparse.specs.declared.Refusal.TheVariants.{Size, Value, Zero, Outside, Order}
-use Rattle.sparse.specs.declared.Tested.{Tested}
 use Rattle.triplets.specs.Triplets.{Triplet, triplet, before}
 use Rattle.market.specs.Parse.{Read, nothing, got, lines, ◌then◌}
 use Rattle.market.specs.Tests.{modulus, outside}
 use Rattle.market.specs.declared.tests.Faults.{Faults}
-use Rattle.market.specs.declared.tests.Walked.{Walked}
-use Rattle.market.specs.declared.tests.Walked.TheVariants.{Whole, Broken}
+
+-- what the lines are found to be
+abbrev pub Walked : Type 0
+Walked = Option Faults
 
 -- before the first entry: its last place is (0, 0), which is no place
 unfoldable pub none : Faults
@@ -51,5 +52,5 @@ walk_on nrows ncols f count bs = lines count bs then λ ts end. got (note_all nr
 
 -- the faults of a text with nothing after its lines
 unfoldable pub walk_read : Walked → Read Faults
-walk_read (Whole f) = got f []
-walk_read Broken = nothing
+walk_read (Some f) = got f []
+walk_read None = nothing

@@ -1,9 +1,7 @@
 -- When a text is refused: 15 alone, else the lowest of 2, 6, 7, 8 and 9.
-use Rattle.std.specs.Prelude.{Bool, true, false, not, ◌&&◌, ◌||◌, List, [], ◌∷◌, ℕ, leb, ltb, eqb, length}
-use Rattle.sparse.specs.Refusals.{refuse, lowest}
+use Rattle.std.specs.Prelude.{Bool, true, false, not, ◌&&◌, ◌||◌, List, [], ◌∷◌, ℕ, leb, ltb, eqb, length, Err}
+use Rattle.sparse.specs.Refusals.{refuse, lowest, Tested}
 use Rattle.sparse.specs.declared.Refusal.TheVariants.{Size, Value, Zero, Outside, Order, Text}
-use Rattle.sparse.specs.declared.Tested.{Tested}
-use Rattle.sparse.specs.declared.Tested.TheVariants.{Refused}
 use Rattle.triplets.specs.Triplets.{Triplet, triplet, before}
 use Rattle.market.specs.Parse.{Read, nothing, got, Market, market}
 
@@ -38,7 +36,7 @@ entries_test nrows ncols ts =
 
 -- a text that gets 15 gets nothing else
 unfoldable pub read_test : Read Market → Tested
-read_test nothing = Refused Text
+read_test nothing = Err Text
 read_test (got m later) = entries_test m.nrows m.ncols m.entries
 
 -- the test of a whole text

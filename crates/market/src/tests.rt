@@ -5,9 +5,9 @@ ghost use Rattle.market.specs.Parse.{whole};
 ghost use Rattle.market.specs.Tests.{outside, market_test};
 ghost use Rattle.triplets.specs.Triplets.{triplet, before};
 
-use crate::lines::{Line, Numbers, line_at, size_line};
+use crate::lines::{Numbers, line_at, size_line};
 use crate::{MAX_ENTRIES, MAX_SIDE, MAX_TEXT, MODULUS};
-use sparse::{Refusal, Tested};
+use sparse::Refusal;
 
 // What is wrong with the entries that were read, and the place of the last of them.
 #[derive(Clone, Copy)]
@@ -20,31 +20,20 @@ pub struct Faults {
     pub col: u64,
 }
 
-// The faults of all entries, or a text that isn't one.
-#[derive(Clone, Copy)]
-pub enum Walked {
-    Whole(Faults),
-    Broken,
-}
-
 // 15 alone, or the lowest of 2, 6, 7, 8 and 9 that applies.
-pub fn market_test(text: &[u8]) -> Tested
+pub fn market_test(text: &[u8]) -> Result<(), Refusal>
     ensures { result ≡ market_test text.now }
 {
     if text.len() > MAX_TEXT {
-        return Tested::Refused(Refusal::Text);
+        return Err(Refusal::Text);
     }
-    let Line::Three(size) = size_line(text) else {
-        return Tested::Refused(Refusal::Text);
-    };
-    let Walked::Whole(faults) = walk(text, size) else {
-        return Tested::Refused(Refusal::Text);
-    };
+    let size = size_line(text).ok_or(Refusal::Text)?;
+    let faults = walk(text, size).ok_or(Refusal::Text)?;
     verdict(size, faults)
 }
 
-// The entry lines, as many as the size line says, and nothing after them.
-fn walk(text: &[u8], size: Numbers) -> Walked
+// The faults of the entry lines, where these are as many as the size line says, and nothing after them.
+fn walk(text: &[u8], size: Numbers) -> Option<Faults>
     ensures { walk_read result ≡ whole (walk_on size.row size.col none size.value (drop size.next text.now)) }
 {
     let mut faults = Faults {
@@ -56,19 +45,15 @@ fn walk(text: &[u8], size: Numbers) -> Walked
         col: 0,
     };
     let mut at = size.next;
-    let mut left = size.value;
-    while left > 0 {
-        let Line::Three(entry) = line_at(text, at) else {
-            return Walked::Broken;
-        };
+    for _ in 0..size.value {
+        let entry = line_at(text, at)?;
         faults = noted(size, faults, entry);
         at = entry.next;
-        left -= 1;
     }
     if at < text.len() {
-        return Walked::Broken;
+        return None;
     }
-    Walked::Whole(faults)
+    Some(faults)
 }
 
 // The faults with those of one entry more.
@@ -115,25 +100,25 @@ fn is_before(faults: Faults, entry: Numbers) -> bool
 }
 
 // The lowest of 2, 6, 7, 8 and 9 that applies.
-fn verdict(size: Numbers, faults: Faults) -> Tested
+fn verdict(size: Numbers, faults: Faults) -> Result<(), Refusal>
     ensures { result ≡ verdict_of size.row size.col size.value faults }
 {
     if is_large(size) {
-        return Tested::Refused(Refusal::Size);
+        return Err(Refusal::Size);
     }
     if faults.large {
-        return Tested::Refused(Refusal::Value);
+        return Err(Refusal::Value);
     }
     if faults.zero {
-        return Tested::Refused(Refusal::Zero);
+        return Err(Refusal::Zero);
     }
     if faults.outside {
-        return Tested::Refused(Refusal::Outside);
+        return Err(Refusal::Outside);
     }
     if faults.order {
-        return Tested::Refused(Refusal::Order);
+        return Err(Refusal::Order);
     }
-    Tested::Good
+    Ok(())
 }
 
 // Whether there are too many rows, columns or entries.

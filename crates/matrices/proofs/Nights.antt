@@ -1,5 +1,6 @@
 -- Rows added: what the tests give, and each outcome.
 -- Assumes nothing.
+use Rattle.std.specs.Prelude.{Err, Ok}
 use mathlib.Core.Path.{◌≡◌, sym, ◌∙◌}
 use mathlib.Core.Bool.{Bool, false, not}
 use mathlib.Core.List.{List, [], ◌∷◌}
@@ -9,12 +10,10 @@ use borrow.Author.Tests.{eqb-true, eq-eqb, ne_eqb, not-false}
 use lib.Dec.{eqb}
 use Rattle.sparse.specs.Lent.{Outcome, outcome, unless}
 use Rattle.sparse.specs.Matrix.{Matrix}
-use Rattle.sparse.specs.Refusals.{refuse, ◌else◌, lowest}
+use Rattle.sparse.specs.Refusals.{refuse, ◌else◌, lowest, Tested}
 use Rattle.sparse.specs.Tests.{modulus_test, clean}
 use Rattle.sparse.specs.declared.Refusal.{Refusal}
 use Rattle.sparse.specs.declared.Refusal.TheVariants.{Mismatch}
-use Rattle.sparse.specs.declared.Tested.{Tested}
-use Rattle.sparse.specs.declared.Tested.TheVariants.{Good, Refused as Unfit}
 use Rattle.sparse.proofs.Cuts.{small}
 use Rattle.sparse.proofs.Firsts.{refuse_good, lowest_good}
 use Rattle.state.specs.Asks.{Opened}
@@ -30,22 +29,22 @@ use Rattle.matrices.specs.Calls.{add_matrix}
 use Rattle.matrices.specs.Tests.{rows_tests, add_matrix_test}
 
 -- column counts that differ, or don't
-pub columns_differ : (n m : ℕ) → (n ≡ m → ⊥) → Unfit Mismatch ≡ lowest (refuse (not (eqb n m)) Mismatch ∷ [])
+pub columns_differ : (n m : ℕ) → (n ≡ m → ⊥) → Err Mismatch ≡ lowest (refuse (not (eqb n m)) Mismatch ∷ [])
 unfolding refuse lowest ◌else◌
 columns_differ n m e = rw (ne_eqb n m e)
 
-pub columns_agree : (n m : ℕ) → n ≡ m → Good ≡ lowest (refuse (not (eqb n m)) Mismatch ∷ [])
+pub columns_agree : (n m : ℕ) → n ≡ m → Ok tt ≡ lowest (refuse (not (eqb n m)) Mismatch ∷ [])
 unfolding refuse lowest ◌else◌
 columns_agree n m e = rw (eq-eqb n m e)
 
 -- the rows' own tests
 record Apt (p n : ℕ) (a : Matrix) : Type 0 where
-  pub modulus : modulus_test p ≡ Good
+  pub modulus : modulus_test p ≡ Ok tt
   pub wide : n ≤ 1024
-  pub rows : clean 65536 p a ≡ Good
+  pub rows : clean 65536 p a ≡ Ok tt
   pub columns : n ≡ a.ncols
 
-apt : (p n : ℕ) (a : Matrix) → lowest (rows_tests p n a) ≡ Good → Apt p n a
+apt : (p n : ℕ) (a : Matrix) → lowest (rows_tests p n a) ≡ Ok tt → Apt p n a
 unfolding rows_tests
 apt p n a e =
     let first = lowest_good _ _ e in
@@ -58,14 +57,14 @@ apt p n a e =
       columns = eqb-true n a.ncols (not-false _ (refuse_good _ Mismatch (lowest_good _ _ third.1).0));
     }
 
-pub rows_opened : (p n : ℕ) (a : Matrix) (dense answers pivots : List ℕ) → lowest (rows_tests p n a) ≡ Good → short_test a.nrows a.ncols dense answers pivots ≡ Good → Opened p n pivots
+pub rows_opened : (p n : ℕ) (a : Matrix) (dense answers pivots : List ℕ) → lowest (rows_tests p n a) ≡ Ok tt → short_test a.nrows a.ncols dense answers pivots ≡ Ok tt → Opened p n pivots
 rows_opened p n a dense answers pivots e s =
     let t = apt p n a e in
     record { modulus = t.modulus; wide = t.wide; table = omega (arith, t.columns, (enough a.nrows a.ncols dense answers pivots s).table_long) }
 
 -- rows added to a state
 module _ (c : Counts) (a : Matrix) (w : Night) where
-  pub add_begins : add_matrix_test c a w.dense w.answers w.memory ≡ Good → Begins c a w
+  pub add_begins : add_matrix_test c a w.dense w.answers w.memory ≡ Ok tt → Begins c a w
   unfolding add_matrix_test
   add_begins e =
       let first = lowest_good _ _ e in
@@ -79,10 +78,10 @@ module _ (c : Counts) (a : Matrix) (w : Night) where
       }
 
   module _ (on : Bool) {s : Tested} (tested : s ≡ add_matrix_test c a w.dense w.answers w.memory) where
-    pub add_refused : {why : Refusal} → s ≡ Unfit why → outcome (Refused why) w ≡ add_matrix on c a w
+    pub add_refused : {why : Refusal} → s ≡ Err why → outcome (Refused why) w ≡ add_matrix on c a w
     unfolding add_matrix unless
     add_refused e = rw (sym tested ∙ e)
 
-    pub add_taken : s ≡ Good → {o : Outcome Reduced Night} → o ≡ take_matrix on false c a w → o ≡ add_matrix on c a w
+    pub add_taken : s ≡ Ok tt → {o : Outcome Reduced Night} → o ≡ take_matrix on false c a w → o ≡ add_matrix on c a w
     unfolding add_matrix unless
     add_taken e took = rw (sym tested ∙ e) took

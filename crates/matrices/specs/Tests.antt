@@ -1,10 +1,9 @@
 -- When many rows can be added: the numbers before the first row.
 use Rattle.std.specs.Prelude.{ℕ, not, List, [], ◌∷◌, eqb}
 use Rattle.sparse.specs.Matrix.{Matrix}
-use Rattle.sparse.specs.Refusals.{refuse, lowest}
+use Rattle.sparse.specs.Refusals.{refuse, lowest, Tested}
 use Rattle.sparse.specs.Tests.{modulus_test, size_test, clean}
 use Rattle.sparse.specs.declared.Refusal.TheVariants.{Mismatch}
-use Rattle.sparse.specs.declared.Tested.{Tested}
 use Rattle.state.specs.Memory.{Memory}
 use Rattle.state.specs.State.{state_test}
 use Rattle.state.specs.declared.Counts.{Counts}

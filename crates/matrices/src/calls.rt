@@ -10,7 +10,7 @@ ghost use Rattle.matrices.specs.Tests.{add_matrix_test};
 use crate::tests::rows_test;
 use batches::rows::take_all;
 use batches::tests::short_test;
-use sparse::Tested;
+use sparse::Refusal;
 use state::Counts;
 use state::inside::state_test;
 use telling::Reduced;
@@ -92,7 +92,7 @@ fn add_rows(
         counts, nrows, ncols, row_ptrs, col_idcs, values, dense, answers, u_cols, u_vals, u_ptrs,
         l_cols, l_vals, l_ptrs, pivots,
     );
-    if let Tested::Refused(why) = tested {
+    if let Err(why) = tested {
         return Reduced::Refused(why);
     }
     take_all(
@@ -117,10 +117,10 @@ fn add_matrix_test(
     l_vals: &[u32],
     l_ptrs: &[usize],
     pivots: &[u32],
-) -> Tested
+) -> Result<(), Refusal>
     ensures { result ≡ add_matrix_test counts (matrix nrows ncols row_ptrs.now col_idcs.now values.now) dense.now answers.now (memory u_cols.now u_vals.now u_ptrs.now l_cols.now l_vals.now l_ptrs.now pivots.now) }
 {
-    let rows = rows_test(
+    rows_test(
         counts.modulus,
         counts.ncols,
         nrows,
@@ -128,14 +128,8 @@ fn add_matrix_test(
         row_ptrs,
         col_idcs,
         values,
-    );
-    if let Tested::Refused(why) = rows {
-        return Tested::Refused(why);
-    }
-    let short = short_test(nrows, ncols, dense, answers, pivots);
-    if let Tested::Refused(why) = short {
-        return Tested::Refused(why);
-    }
+    )?;
+    short_test(nrows, ncols, dense, answers, pivots)?;
     state_test(
         counts, u_cols, u_vals, u_ptrs, l_cols, l_vals, l_ptrs, pivots,
     )

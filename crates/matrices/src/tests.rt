@@ -5,7 +5,7 @@ ghost use Rattle.sparse.specs.Refusals.{lowest};
 ghost use Rattle.matrices.specs.Tests.{rows_tests};
 
 use sparse::inside::{modulus_test, size_test};
-use sparse::{MAX_ENTRIES, Refusal, Tested, try_from_csr_clean};
+use sparse::{MAX_ENTRIES, Refusal, try_from_csr_clean};
 
 // 1 to 7 of the record and the rows, and 11 where the column counts differ.
 pub fn rows_test(
@@ -16,23 +16,14 @@ pub fn rows_test(
     row_ptrs: &[usize],
     col_idcs: &[u32],
     values: &[u32],
-) -> Tested
+) -> Result<(), Refusal>
     ensures { result ≡ lowest (rows_tests p columns (matrix nrows ncols row_ptrs.now col_idcs.now values.now)) }
 {
-    let modulus = modulus_test(p);
-    if let Tested::Refused(why) = modulus {
-        return Tested::Refused(why);
-    }
-    let size = size_test(MAX_ENTRIES, 0, columns, 0);
-    if let Tested::Refused(why) = size {
-        return Tested::Refused(why);
-    }
-    let clean = try_from_csr_clean(p, nrows, ncols, row_ptrs, col_idcs, values);
-    if let Tested::Refused(why) = clean {
-        return Tested::Refused(why);
-    }
+    modulus_test(p)?;
+    size_test(MAX_ENTRIES, 0, columns, 0)?;
+    try_from_csr_clean(p, nrows, ncols, row_ptrs, col_idcs, values)?;
     if columns != ncols {
-        return Tested::Refused(Refusal::Mismatch);
+        return Err(Refusal::Mismatch);
     }
-    Tested::Good
+    Ok(())
 }

@@ -1,5 +1,6 @@
 -- The matrix built from triplets that pass the tests: each row has exactly the triplets of that row, in their order; it has
 -- exactly their values at their places; and it is well formed. Assumes nothing.
+use Rattle.std.specs.Prelude.{Ok}
 use mathlib.Core.Path.{◌≡◌, refl, sym, ap, ◌∙◌}
 use mathlib.Core.Bool.{cond, ◌&&◌}
 use mathlib.Core.List.{List, map}
@@ -13,7 +14,6 @@ use Rattle.lists.proofs.Tables.{get_or-table}
 use Rattle.sparse.specs.Matrix.{Matrix, matrix, row, value_at}
 use Rattle.sparse.specs.Tests.{size_test, matrix_test, well_formed}
 use Rattle.triplets.specs.Triplets.{Triplet, triplet, triplets, at, start_of, triplets_test}
-use Rattle.sparse.specs.declared.Tested.TheVariants.{Good}
 use Rattle.meaning.proofs.BuiltForm.{form_good}
 use Rattle.sparse.proofs.Firsts.{lowest_skip, lowest_last, lowest_good}
 use Rattle.lists.specs.Find.{keep}
@@ -50,14 +50,14 @@ module _ (p nrows ncols : ℕ) (rows cols vals : List ℕ) where
     built_value i j h = rw (built_columns i h, built_values i h) (value_kept (λ t. eqb t.row i) (λ t. t.col) (λ t. t.value) (triplets rows cols vals) (triplet 0 0 0) j)
 
     -- none of 3 to 6 applies
-    pub built_form : matrix_test p (built nrows ncols (triplets rows cols vals)) ≡ Good
+    pub built_form : matrix_test p (built nrows ncols (triplets rows cols vals)) ≡ Ok tt
     built_form =
         let parts = parts_of rows cols vals ok.parts in
         rw (rows_back rows cols vals parts, cols_back rows cols vals parts, vals_back rows cols vals)
         (form_good p nrows ncols rows cols vals parts ok.residues ok.places ok.order)
 
   -- what the call builds is well formed
-  pub built_well_formed : triplets_test p nrows ncols rows cols vals ≡ Good → well_formed 65536 p (built nrows ncols (triplets rows cols vals)) ≡ Good
+  pub built_well_formed : triplets_test p nrows ncols rows cols vals ≡ Ok tt → well_formed 65536 p (built nrows ncols (triplets rows cols vals)) ≡ Ok tt
   unfolding well_formed triplets_test
   built_well_formed good =
       let from_size = lowest_good _ _ (lowest_good _ _ good).1 in

@@ -1,5 +1,6 @@
 -- The rows of a clean matrix are clean, and clean matrices of equal values are equal.
 -- Assumes nothing.
+use Rattle.std.specs.Prelude.{Ok}
 use mathlib.Core.Path.{◌≡◌, sym, ap, ap₂, ◌∙◌}
 use Prim.Native.Nat.{ℕ, ◌+◌, ◌-◌, ◌≤◌, ◌<◌}
 use native.Mathlib.Omega.{arith}
@@ -12,7 +13,6 @@ use Rattle.sparse.specs.Refusals.{number}
 use Rattle.sparse.specs.Rows.{entries, rows_of, compressed}
 use Rattle.sparse.specs.Tests.{well_formed, clean}
 use Rattle.sparse.specs.declared.Refusal.TheVariants.{Zero}
-use Rattle.sparse.specs.declared.Tested.TheVariants.{Good}
 use Rattle.sparse.proofs.Cuts.{Laid, formed_laid, formed_rows}
 use Rattle.sparse.proofs.Firsts.{lowest_good}
 use Rattle.meaning.proofs.Numbers.{no_row, clean_none}
@@ -20,8 +20,8 @@ use Rattle.meaning.proofs.Parts.{length_part, get_d_part}
 use Rattle.meaning.proofs.RowLists.{compressed_rows, part_entries}
 use Rattle.meaning.proofs.Values.{no_bad_climbs, Clean, clean_unique}
 
-module _ (limit p : ℕ) (m : Matrix) (good : clean limit p m ≡ Good) where
-  formed : well_formed limit p m ≡ Good
+module _ (limit p : ℕ) (m : Matrix) (good : clean limit p m ≡ Ok tt) where
+  formed : well_formed limit p m ≡ Ok tt
   unfolding clean
   formed = (lowest_good _ _ good).0
 
@@ -57,7 +57,7 @@ module _ (limit p : ℕ) (m : Matrix) (good : clean limit p m ≡ Good) where
   clean_entries i h = sym (part_entries (get_or m.row_ptrs i 0) (get_or m.row_ptrs (i + 1) 0) m.col_idcs m.values clean_laid.shape.col_each (clean_laid.rows.within i h))
 
 -- clean matrices of one shape that have the same value at every place are equal
-pub clean_matrix_unique : (limit p : ℕ) (m o : Matrix) → clean limit p m ≡ Good → clean limit p o ≡ Good → m.nrows ≡ o.nrows → m.ncols ≡ o.ncols
+pub clean_matrix_unique : (limit p : ℕ) (m o : Matrix) → clean limit p m ≡ Ok tt → clean limit p o ≡ Ok tt → m.nrows ≡ o.nrows → m.ncols ≡ o.ncols
     → ((i j : ℕ) → i < m.nrows → j < m.ncols → value_at m i j ≡ value_at o i j) → m ≡ o
 unfolding value_at
 clean_matrix_unique limit p m o good fine rows cols same =

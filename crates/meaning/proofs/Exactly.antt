@@ -1,6 +1,7 @@
 -- A number is given exactly when its clause holds and no preferred one does.
 -- A stage is a test that answers for the numbers above `low` up to `high`; stages in the table's order join to one.
 -- Assumes nothing.
+use Rattle.std.specs.Prelude.{Err, Ok}
 use mathlib.Core.Path.{◌≡◌, refl, sym, ap, subst, ◌∙◌}
 use mathlib.Core.Logic.{◌↔◌, ◌⊎◌, inl, inr, ⊎_elim}
 use mathlib.Core.Bool.{Bool, true, false}
@@ -12,11 +13,9 @@ use lib.Dec.{lit<}
 use lib.ListN.{get_or}
 use Rattle.lists.proofs.Decides.{Decides}
 use Rattle.meaning.specs.Clauses.{Some}
-use Rattle.sparse.specs.Refusals.{number, refuse, ◌else◌, first_of}
+use Rattle.sparse.specs.Refusals.{number, refuse, ◌else◌, first_of, Tested}
 use Rattle.sparse.specs.declared.Refusal.{Refusal}
 use Rattle.sparse.specs.declared.Refusal.TheVariants.{Modulus, Size, Shape, Pointer, Column, Value, Zero, Outside, Order, NotSquare, Mismatch, Positions, State, Room, Text}
-use Rattle.sparse.specs.declared.Tested.{Tested}
-use Rattle.sparse.specs.declared.Tested.TheVariants.{Good, Refused}
 use Rattle.sparse.proofs.Firsts.{each_good, Found, find}
 
 -- the refusal of a number
@@ -66,11 +65,11 @@ from_one Text = lit< tt
 
 -- t answers for the numbers above low up to high, App saying where each clause holds
 pub record Stage (App : Refusal → Type 0) (low high : ℕ) (t : Tested) : Type 0 where
-  pub holds : (r : Refusal) → t ≡ Refused r → App r
-  pub above : (r : Refusal) → t ≡ Refused r → low < number r
-  pub upto : (r : Refusal) → t ≡ Refused r → number r ≤ high
-  pub first : (r : Refusal) → t ≡ Refused r → (q : Refusal) → low < number q → number q < number r → App q → ⊥
-  pub none : t ≡ Good → (q : Refusal) → low < number q → number q ≤ high → App q → ⊥
+  pub holds : (r : Refusal) → t ≡ Err r → App r
+  pub above : (r : Refusal) → t ≡ Err r → low < number r
+  pub upto : (r : Refusal) → t ≡ Err r → number r ≤ high
+  pub first : (r : Refusal) → t ≡ Err r → (q : Refusal) → low < number q → number q < number r → App q → ⊥
+  pub none : t ≡ Ok tt → (q : Refusal) → low < number q → number q ≤ high → App q → ⊥
 
 -- a number above low is at most mid, or above it
 pub side : (n mid : ℕ) → (n ≤ mid) ⊎ (mid < n)
@@ -80,38 +79,38 @@ side n mid = go (dec_lt mid n)
     go (yes l) = inr l
     go (no l) = inl (omega arith)
 
--- Good is no refusal
-pub never : {r : Refusal} → Good ≡ Refused r → ⊥
+-- `Ok tt` is no refusal
+pub never : {r : Refusal} → ◌≡◌ {A = Tested} (Ok tt) (Err r) → ⊥
 never e = let z : ◌≡◌ {A = ℕ} 0 1 = cc in omega arith
 
-pub inner : {r q : Refusal} → Refused r ≡ Refused q → r ≡ q
+pub inner : {r q : Refusal} → ◌≡◌ {A = Tested} (Err r) (Err q) → r ≡ q
 inner e = cc
 
 -- a clause that is tested first: it holds and refuses, or it doesn't and the rest decides
-pub refuse_first : {b : Bool} {P : Type 0} → Decides b P → (r : Refusal) (t u : Tested) → refuse b r else t ≡ u → (P × (Refused r ≡ u)) ⊎ ((P → ⊥) × (t ≡ u))
+pub refuse_first : {b : Bool} {P : Type 0} → Decides b P → (r : Refusal) (t u : Tested) → refuse b r else t ≡ u → (P × (Err r ≡ u)) ⊎ ((P → ⊥) × (t ≡ u))
 unfolding refuse ◌else◌
 refuse_first {b = true} d r t u e = inl (d.yes refl, e)
 refuse_first {b = false} d r t u e = inr (d.no refl, e)
 
-pub refuse_alone : {b : Bool} {P : Type 0} → Decides b P → (r : Refusal) (u : Tested) → refuse b r ≡ u → (P × (Refused r ≡ u)) ⊎ ((P → ⊥) × (Good ≡ u))
+pub refuse_alone : {b : Bool} {P : Type 0} → Decides b P → (r : Refusal) (u : Tested) → refuse b r ≡ u → (P × (Err r ≡ u)) ⊎ ((P → ⊥) × ((Ok tt) ≡ u))
 unfolding refuse
 refuse_alone {b = true} d r u e = inl (d.yes refl, e)
 refuse_alone {b = false} d r u e = inr (d.no refl, e)
 
 -- a clause at each of n places: where one is refused it holds, where none is it holds nowhere
 module _ (n : ℕ) (b : ℕ → Bool) (P : ℕ → Type 0) (d : (k : ℕ) → Decides (b k) (P k)) (r : Refusal) where
-  pub some_found : (q : Refusal) → first_of n (λ k. refuse (b k) r) ≡ Refused q → Some n P × (q ≡ r)
+  pub some_found : (q : Refusal) → first_of n (λ k. refuse (b k) r) ≡ Err q → Some n P × (q ≡ r)
   some_found q e =
       let w : Found n (λ k. refuse (b k) r) q = find n (λ k. refuse (b k) r) e in
-      ⊎_elim (λ x. (record { place = w.place; within = w.within; such = x.0 }, sym (inner x.1))) (λ x. absurd (never x.1)) (refuse_alone (d w.place) r (Refused q) w.here)
+      ⊎_elim (λ x. (record { place = w.place; within = w.within; such = x.0 }, sym (inner x.1))) (λ x. absurd (never x.1)) (refuse_alone (d w.place) r (Err q) w.here)
 
-  pub some_none : first_of n (λ k. refuse (b k) r) ≡ Good → Some n P → ⊥
+  pub some_none : first_of n (λ k. refuse (b k) r) ≡ Ok tt → Some n P → ⊥
   some_none e w =
-      ⊎_elim (λ x. never (sym x.1)) (λ x. x.0 w.such) (refuse_alone (d w.place) r Good (each_good n (λ k. refuse (b k) r) e w.place w.within))
+      ⊎_elim (λ x. never (sym x.1)) (λ x. x.0 w.such) (refuse_alone (d w.place) r (Ok tt) (each_good n (λ k. refuse (b k) r) e w.place w.within))
 
 -- a clause that holds of one refusal alone, tested in any way
 pub alone : (App : Refusal → Type 0) (low high : ℕ) (t : Tested) (r : Refusal) (P : Type 0) → number r ≡ high → low < high
-    → ((q : Refusal) → t ≡ Refused q → P × (q ≡ r)) → (t ≡ Good → P → ⊥) → (P → App r) → (App r → P)
+    → ((q : Refusal) → t ≡ Err q → P × (q ≡ r)) → (t ≡ Ok tt → P → ⊥) → (P → App r) → (App r → P)
     → ((q : Refusal) → low < number q → number q < high → App q → ⊥)
     → Stage App low high t
 alone App low high t r P e l found none to from gap = record {
@@ -127,14 +126,14 @@ pub clause : (App : Refusal → Type 0) (low high : ℕ) (b : Bool) (r : Refusal
     → ((q : Refusal) → low < number q → number q < high → App q → ⊥) → Stage App low high (refuse b r)
 clause App low high b r e l d gap = alone App low high (refuse b r) r (App r) e l found none (λ x. x) (λ x. x) gap
   where
-    found : (q : Refusal) → refuse b r ≡ Refused q → App r × (q ≡ r)
-    found q f = ⊎_elim (λ x. (x.0, sym (inner x.1))) (λ x. absurd (never x.1)) (refuse_alone d r (Refused q) f)
+    found : (q : Refusal) → refuse b r ≡ Err q → App r × (q ≡ r)
+    found q f = ⊎_elim (λ x. (x.0, sym (inner x.1))) (λ x. absurd (never x.1)) (refuse_alone d r (Err q) f)
 
-    none : refuse b r ≡ Good → App r → ⊥
-    none f x = ⊎_elim (λ y. never (sym y.1)) (λ y. y.0 x) (refuse_alone d r Good f)
+    none : refuse b r ≡ Ok tt → App r → ⊥
+    none f x = ⊎_elim (λ y. never (sym y.1)) (λ y. y.0 x) (refuse_alone d r (Ok tt) f)
 
 -- the end of a list of tests
-pub ended : (App : Refusal → Type 0) (n : ℕ) → Stage App n n Good
+pub ended : (App : Refusal → Type 0) (n : ℕ) → Stage App n n (Ok tt)
 ended App n = record {
   holds = λ r e. absurd (never e);
   above = λ r e. absurd (never e);
@@ -144,9 +143,9 @@ ended App n = record {
 }
 
 -- stages in order
-pub join : (App : Refusal → Type 0) (low mid high : ℕ) (t u : Tested) → low ≤ mid → mid ≤ high → Stage App low mid t → (t ≡ Good → Stage App mid high u) → Stage App low high (t else u)
+pub join : (App : Refusal → Type 0) (low mid high : ℕ) (t u : Tested) → low ≤ mid → mid ≤ high → Stage App low mid t → (t ≡ Ok tt → Stage App mid high u) → Stage App low high (t else u)
 unfolding ◌else◌
-join App low mid high Good u lm mh s rest =
+join App low mid high (Ok _) u lm mh s rest =
     let v : Stage App mid high u = rest refl in
     record {
       holds = v.holds;
@@ -155,7 +154,7 @@ join App low mid high Good u lm mh s rest =
       first = λ r f q lo hi a. ⊎_elim (λ le. s.none refl q lo le a) (λ gt. v.first r f q gt hi a) (side (number q) mid);
       none = λ f q lo hi a. ⊎_elim (λ le. s.none refl q lo le a) (λ gt. v.none f q gt hi a) (side (number q) mid);
     }
-join App low mid high (Refused r) u lm mh s rest = record {
+join App low mid high (Err r) u lm mh s rest = record {
   holds = s.holds;
   above = s.above;
   upto = λ q f. let g : number q ≤ mid = s.upto q f in omega arith;
@@ -165,9 +164,9 @@ join App low mid high (Refused r) u lm mh s rest = record {
 
 -- the number that is given is the lowest that applies
 pub exactly : (App : Refusal → Type 0) (high : ℕ) (t : Tested) → Stage App 0 high t → (r : Refusal)
-    → (t ≡ Refused r) ↔ (App r × (number r ≤ high) × ((q : Refusal) → number q < number r → App q → ⊥))
+    → (t ≡ Err r) ↔ (App r × (number r ≤ high) × ((q : Refusal) → number q < number r → App q → ⊥))
 exactly App high t s r = (λ e. (s.holds r e, s.upto r e, (λ q l. s.first r e q (from_one q) l)), from t s)
   where
-    from : (u : Tested) → Stage App 0 high u → (App r × (number r ≤ high) × ((q : Refusal) → number q < number r → App q → ⊥)) → u ≡ Refused r
-    from Good g w = absurd (g.none refl r (from_one r) w.1 w.0)
-    from (Refused q) g w = ap Refused (same_number q r (⊎_elim (λ le. ⊎_elim (λ ge. omega arith) (λ lt. absurd (w.2 q lt (g.holds q refl))) (side (number r) (number q))) (λ gt. absurd (g.first q refl r (from_one r) gt w.0)) (side (number q) (number r))))
+    from : (u : Tested) → Stage App 0 high u → (App r × (number r ≤ high) × ((q : Refusal) → number q < number r → App q → ⊥)) → u ≡ Err r
+    from (Ok _) g w = absurd (g.none refl r (from_one r) w.1 w.0)
+    from (Err q) g w = ap Err (same_number q r (⊎_elim (λ le. ⊎_elim (λ ge. omega arith) (λ lt. absurd (w.2 q lt (g.holds q refl))) (side (number r) (number q))) (λ gt. absurd (g.first q refl r (from_one r) gt w.0)) (side (number q) (number r))))

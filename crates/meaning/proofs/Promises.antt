@@ -3,13 +3,13 @@
 use mathlib.Core.Path.{◌≡◌}
 use mathlib.Core.List.{List}
 use Prim.Native.Nat.{ℕ}
+use Rattle.sparse.specs.Refusals.{Tested}
+use Rattle.sparse.specs.Put.{Built}
 use Rattle.lists.proofs.Only.{only}
 use Rattle.sparse.specs.Lent.{Lent, Outcome}
 use Rattle.sparse.specs.Matrix.{Matrix}
 use Rattle.sparse.specs.Tests.{well_formed, clean, well_formed_vector}
 use Rattle.triplets.specs.Triplets.{from_triplets}
-use Rattle.sparse.specs.declared.Built.{Built}
-use Rattle.sparse.specs.declared.Tested.{Tested}
 
 pub try_from_csr_only : (p : ℕ) (m : Matrix) {r s : Tested} → r ≡ well_formed 65536 p m → s ≡ well_formed 65536 p m → r ≡ s
 try_from_csr_only p m = only

@@ -1,6 +1,7 @@
 -- The columns of a good matrix: they climb in each row, and each lies below the column count. And what is made of each
 -- element of a part.
 -- Assumes nothing.
+use Rattle.std.specs.Prelude.{Ok}
 use mathlib.Core.Path.{◌≡◌, refl, ap, ◌∙◌}
 use mathlib.Core.Bool.{◌&&◌, ◌||◌, false, and-false}
 use mathlib.Core.List.{List, [], ◌∷◌, map}
@@ -14,7 +15,6 @@ use Rattle.sparse.specs.Matrix.{Matrix, part, row}
 use Rattle.sparse.specs.Refusals.{refuse}
 use Rattle.sparse.specs.Tests.{column_test, columns_test, row_test, rows_test}
 use Rattle.sparse.specs.declared.Refusal.TheVariants.{Column}
-use Rattle.sparse.specs.declared.Tested.TheVariants.{Good}
 use Rattle.sparse.proofs.Cuts.{Laid}
 use Rattle.sparse.proofs.Firsts.{refuse_false, else_good, each_good, all_good}
 use Rattle.meaning.proofs.Parts.{length_part, get_d_part, InRow, in_row}
@@ -36,7 +36,7 @@ unfolding part
 map-part f a b xs = ap (take (b - a)) (map-drop f a xs) ∙ map-take f (b - a) (drop a xs)
 
 -- 5 finds nothing in a row that climbs
-pub climbs_good : (n : ℕ) (cols : List ℕ) → Climbs n cols → columns_test n cols ≡ Good
+pub climbs_good : (n : ℕ) (cols : List ℕ) → Climbs n cols → columns_test n cols ≡ Ok tt
 unfolding columns_test column_test
 climbs_good n cols c = all_good (length cols) (column_test n cols) one
   where
@@ -44,10 +44,10 @@ climbs_good n cols c = all_good (length cols) (column_test n cols) one
     above k h (no first) = rw (le-ltb 0 k (omega arith))
     above k h (yes later) = rw (lt-leb (get_or cols k 0) (get_or cols (k - 1) 0) (c.rises (k - 1) k (omega arith) h)) (and-false (ltb 0 k))
 
-    one : (k : ℕ) → k < length cols → refuse (leb n (get_or cols k 0) || ltb 0 k && leb (get_or cols k 0) (get_or cols (k - 1) 0)) Column ≡ Good
+    one : (k : ℕ) → k < length cols → refuse (leb n (get_or cols k 0) || ltb 0 k && leb (get_or cols k 0) (get_or cols (k - 1) 0)) Column ≡ Ok tt
     one k h = refuse_false _ Column (rw (lt-leb n (get_or cols k 0) (c.below k h)) (above k h (dec_lt 0 k)))
 
-module _ (m : Matrix) (good : rows_test m.nrows m.ncols m.row_ptrs m.col_idcs ≡ Good) where
+module _ (m : Matrix) (good : rows_test m.nrows m.ncols m.row_ptrs m.col_idcs ≡ Ok tt) where
   pub row_climbs : (i : ℕ) → i < m.nrows → Climbs m.ncols (row m.row_ptrs m.col_idcs i)
   unfolding rows_test row_test row
   row_climbs i h = columns_climb m.ncols _ (else_good _ _ (each_good m.nrows _ good i h)).1

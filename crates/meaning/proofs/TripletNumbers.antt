@@ -1,5 +1,6 @@
 -- `from_triplets` gives each number exactly when its clause holds and no preferred one does.
 -- Assumes nothing.
+use Rattle.std.specs.Prelude.{Err, Ok}
 use mathlib.Core.Path.{◌≡◌, refl, subst}
 use mathlib.Core.Logic.{◌↔◌, ◌⊎◌, ⊎_elim}
 use mathlib.Core.Bool.{not, ◌&&◌, ◌||◌}
@@ -8,21 +9,18 @@ use Prim.Native.Nat.{ℕ, ◌+◌, ◌-◌, ◌≤◌, ◌<◌}
 use native.Mathlib.Omega.{arith}
 use lib.Dec.{leb, ltb, lit<, lit≤}
 use lib.ListN.{length}
+use Rattle.sparse.specs.Put.{Built}
 use Rattle.lists.proofs.Decides.{Decides, decides_not, decides_or, decides_and, decides_lt, decides_le, decides_eq}
 use Rattle.field.specs.Prime.{is_modulus}
 use Rattle.field.proofs.Primes.{decides_modulus}
 use Rattle.meaning.specs.Clauses.{Stored}
 use Rattle.sparse.specs.Lent.{Lent, room_test, Outcome, unless}
-use Rattle.sparse.specs.Refusals.{number, lowest}
+use Rattle.sparse.specs.Refusals.{number, lowest, Tested}
 use Rattle.sparse.specs.Tests.{modulus_test, size_test, values_test}
 use Rattle.meaning.specs.TripletClauses.{Before, SomeOutside, SomeFall, TripletsApply}
 use Rattle.triplets.specs.Triplets.{Triplet, triplets, at, before, parts_test, place_test, places_test, step_test, order_test, triplets_test, from_triplets}
-use Rattle.sparse.specs.declared.Built.{Built}
-use Rattle.sparse.specs.declared.Built.TheVariants.{Made, Refused as Unmade}
 use Rattle.sparse.specs.declared.Refusal.{Refusal}
 use Rattle.sparse.specs.declared.Refusal.TheVariants.{Modulus, Size, Shape, Pointer, Column, Value, Zero, Outside, Order, NotSquare, Mismatch, Positions, State, Room}
-use Rattle.sparse.specs.declared.Tested.{Tested}
-use Rattle.sparse.specs.declared.Tested.TheVariants.{Good, Refused}
 use Rattle.sparse.specs.declared.inside.Clause.TheVariants.{Residue}
 use Rattle.meaning.proofs.Exactly.{same_number, Stage, side, never, some_found, some_none, alone, clause, ended, join, exactly}
 use Rattle.meaning.proofs.Numbers.{decides_size, next, values_found, values_good}
@@ -36,11 +34,11 @@ module _ (nrows ncols : ℕ) (ts : List Triplet) where
   decides_place : (k : ℕ) → Decides (leb nrows (at ts k).row || leb ncols (at ts k).col) ((nrows ≤ (at ts k).row) ⊎ (ncols ≤ (at ts k).col))
   decides_place k = decides_or (decides_le nrows (at ts k).row) (decides_le ncols (at ts k).col)
 
-  pub places_found : (r : Refusal) → places_test nrows ncols ts ≡ Refused r → SomeOutside nrows ncols ts × (r ≡ Outside)
+  pub places_found : (r : Refusal) → places_test nrows ncols ts ≡ Err r → SomeOutside nrows ncols ts × (r ≡ Outside)
   unfolding places_test place_test
   places_found = some_found (length ts) _ _ decides_place Outside
 
-  pub places_good : places_test nrows ncols ts ≡ Good → SomeOutside nrows ncols ts → ⊥
+  pub places_good : places_test nrows ncols ts ≡ Ok tt → SomeOutside nrows ncols ts → ⊥
   unfolding places_test place_test
   places_good = some_none (length ts) _ _ decides_place Outside
 
@@ -49,11 +47,11 @@ module _ (ts : List Triplet) where
   decides_fall : (k : ℕ) → Decides (ltb 0 k && not (before (at ts (k - 1)) (at ts k))) ((0 < k) × (Before (at ts (k - 1)) (at ts k) → ⊥))
   decides_fall k = decides_and (decides_lt 0 k) (decides_not (decides_before (at ts (k - 1)) (at ts k)))
 
-  pub order_found : (r : Refusal) → order_test ts ≡ Refused r → SomeFall ts × (r ≡ Order)
+  pub order_found : (r : Refusal) → order_test ts ≡ Err r → SomeFall ts × (r ≡ Order)
   unfolding order_test step_test
   order_found = some_found (length ts) _ _ decides_fall Order
 
-  pub order_good : order_test ts ≡ Good → SomeFall ts → ⊥
+  pub order_good : order_test ts ≡ Ok tt → SomeFall ts → ⊥
   unfolding order_test step_test
   order_good = some_none (length ts) _ _ decides_fall Order
 
@@ -116,23 +114,23 @@ module _ (p nrows ncols : ℕ) (rows cols vals : List ℕ) (l : Lent) where
       join App 2 3 9 (parts_test rows cols vals) _ (lit≤ tt) (lit≤ tt) parts_stage
       (λ c.
       join App 3 6 9 (values_test Residue p vals) _ (lit≤ tt) (lit≤ tt) values_stage
-      (λ d. join App 6 8 9 (places_test nrows ncols ts) _ (lit≤ tt) (lit≤ tt) places_stage (λ e. join App 8 9 9 (order_test ts) Good (lit≤ tt) (lit≤ tt) order_stage (λ f. ended App 9))))))
+      (λ d. join App 6 8 9 (places_test nrows ncols ts) _ (lit≤ tt) (lit≤ tt) places_stage (λ e. join App 8 9 9 (order_test ts) (Ok tt) (lit≤ tt) (lit≤ tt) order_stage (λ f. ended App 9))))))
 
   abbrev found : Tested
   found = lowest (triplets_test p nrows ncols rows cols vals ∷ room_test nrows (length vals) l ∷ [])
 
   whole_stage : Stage App 0 14 found
   unfolding lowest
-  whole_stage = join App 0 9 14 (triplets_test p nrows ncols rows cols vals) _ (lit≤ tt) (lit≤ tt) tested_stage (λ a. join App 9 14 14 (room_test nrows (length vals) l) Good (lit≤ tt) (lit≤ tt) room_stage (λ b. ended App 14))
+  whole_stage = join App 0 9 14 (triplets_test p nrows ncols rows cols vals) _ (lit≤ tt) (lit≤ tt) tested_stage (λ a. join App 9 14 14 (room_test nrows (length vals) l) (Ok tt) (lit≤ tt) (lit≤ tt) room_stage (λ b. ended App 14))
 
   -- the call answers what its tests find
-  answered : (t : Tested) (r : Refusal) (o : Outcome Built Lent) (n : ℕ) → o.answer ≡ Made n → ((unless Unmade t l o).answer ≡ Unmade r) ↔ (t ≡ Refused r)
+  answered : (t : Tested) (r : Refusal) (o : Outcome Built Lent) (n : ℕ) → o.answer ≡ Ok n → ((unless Err t l o).answer ≡ Err r) ↔ (t ≡ Err r)
   unfolding unless
-  answered Good r o n made = ((λ e. let z : ◌≡◌ {A = ℕ} 0 1 = cc in absurd (omega arith)), (λ e. absurd (never e)))
-  answered (Refused q) r o n made = ((λ e. cc), (λ e. cc))
+  answered (Ok _) r o n made = ((λ e. let z : ◌≡◌ {A = ℕ} 0 1 = cc in absurd (omega arith)), (λ e. absurd (never e)))
+  answered (Err q) r o n made = ((λ e. cc), (λ e. cc))
 
   -- a number is given exactly when its clause holds and no preferred one does
-  pub from_triplets_exactly : (r : Refusal) → ((from_triplets p nrows ncols rows cols vals l).answer ≡ Unmade r) ↔ (TripletsApply p nrows ncols rows cols vals l r × (number r ≤ 14) × ((q : Refusal) → number q < number r → TripletsApply p nrows ncols rows cols vals l q → ⊥))
+  pub from_triplets_exactly : (r : Refusal) → ((from_triplets p nrows ncols rows cols vals l).answer ≡ Err r) ↔ (TripletsApply p nrows ncols rows cols vals l r × (number r ≤ 14) × ((q : Refusal) → number q < number r → TripletsApply p nrows ncols rows cols vals l q → ⊥))
   unfolding from_triplets
   from_triplets_exactly r =
       let a = answered found r _ (length vals) refl in

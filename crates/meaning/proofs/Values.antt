@@ -1,5 +1,6 @@
 -- What lies at each place of a row, and that clean rows of equal meaning are equal.
 -- Assumes nothing.
+use Rattle.std.specs.Prelude.{Ok}
 use mathlib.Core.Path.{◌≡◌, refl, sym, ap, ap₂, ◌∙◌}
 use mathlib.Core.Logic.{inl, inr}
 use mathlib.Core.Bool.{cond}
@@ -14,7 +15,6 @@ use lib.ListN.{length, get_or}
 use Rattle.lists.proofs.Sums.{sum_one, sum-zero, sum_first}
 use Rattle.sparse.specs.Matrix.{value_in}
 use Rattle.sparse.specs.Tests.{columns_test}
-use Rattle.sparse.specs.declared.Tested.TheVariants.{Good}
 use Rattle.meaning.specs.Clauses.{BadColumn}
 use Rattle.meaning.proofs.Numbers.{columns_good}
 
@@ -53,7 +53,7 @@ no_bad_climbs n cols e = record { below = low; rises = up }
         go (no b) ih = let same : i ≡ k = omega arith in rw same (step k h)
 
 -- so 5 that finds nothing says
-pub columns_climb : (n : ℕ) (cols : List ℕ) → columns_test n cols ≡ Good → Climbs n cols
+pub columns_climb : (n : ℕ) (cols : List ℕ) → columns_test n cols ≡ Ok tt → Climbs n cols
 columns_climb n cols e = no_bad_climbs n cols (columns_good n cols e)
 
 -- an entry's value lies at its column

@@ -1,5 +1,6 @@
 -- The right half of a square matrix with the identity beside it, its rows reversed, is the identity with its rows reversed.
 -- Assumes nothing.
+use Rattle.std.specs.Prelude.{Ok}
 use mathlib.Core.Path.{◌≡◌, refl, sym, ap, ap₂, ◌∙◌}
 use mathlib.Core.List.{List, [], ◌∷◌, ◌++◌, map}
 use Prim.Native.Nat.{ℕ, suc, ◌+◌, ◌-◌, ◌<◌}
@@ -13,7 +14,6 @@ use Rattle.sparse.specs.Matrix.{Matrix}
 use Rattle.sparse.specs.Rows.{Entry, entry, row_at, compressed}
 use Rattle.sparse.specs.Tests.{well_formed}
 use Rattle.sparse.specs.declared.Refusal.TheVariants.{NotSquare}
-use Rattle.sparse.specs.declared.Tested.TheVariants.{Good}
 use Rattle.sparse.proofs.Firsts.{lowest_good, lowest_next, lowest_last, refuse_good}
 use Rattle.meaning.proofs.Values.{columns_climb}
 use Rattle.writing.proofs.WellFormed.{given_columns}
@@ -37,12 +37,12 @@ half_twice : (n : ℕ) → half (n + n) ≡ n
 unfolding half
 half_twice n = omega arith
 
-module _ (p : ℕ) (m : Matrix) (good : append_identity_test p m ≡ Good) where
+module _ (p : ℕ) (m : Matrix) (good : append_identity_test p m ≡ Ok tt) where
   square : m.nrows ≡ m.ncols
   unfolding append_identity_test
   square = eqb-true _ _ (not-false _ (refuse_good _ NotSquare (lowest_good _ _ (lowest_good _ _ (lowest_good _ _ (lowest_good _ _ (lowest_good _ _ good).1).1).1).1).0))
 
-  formed : well_formed 65536 p m ≡ Good
+  formed : well_formed 65536 p m ≡ Ok tt
   unfolding append_identity_test well_formed
   formed =
       let one = lowest_good _ _ good in

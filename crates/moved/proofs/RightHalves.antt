@@ -1,5 +1,6 @@
 -- `take_rev_right_half`: which row stands where, what value lies at each place, and that a good matrix stays good.
 -- Assumes nothing.
+use Rattle.std.specs.Prelude.{Ok}
 use mathlib.Core.Path.{◌≡◌, refl, sym, ap, ap₂, ◌∙◌}
 use mathlib.Core.Bool.{Bool, true, false, cond, ◌&&◌}
 use mathlib.Core.List.{List, [], ◌∷◌, map, map-map, flatten}
@@ -19,7 +20,6 @@ use Rattle.sparse.specs.Matrix.{Matrix, value_in, value_at}
 use Rattle.sparse.specs.Refusals.{refuse}
 use Rattle.sparse.specs.Rows.{Entry, entry, row_at, compressed}
 use Rattle.sparse.specs.Tests.{size_test, columns_test, value_test, values_test, well_formed}
-use Rattle.sparse.specs.declared.Tested.TheVariants.{Good}
 use Rattle.sparse.specs.declared.inside.Clause.TheVariants.{Residue}
 use Rattle.sparse.proofs.Cuts.{small, formed_laid}
 use Rattle.sparse.proofs.Firsts.{lowest_good, refuse_good, each_good, all_good}
@@ -61,7 +61,7 @@ module _ (m : Matrix) (i : ℕ) (h : i < m.nrows) where
   pub half_row : row_at (right_half m) i ≡ right_of (half m.ncols) (row_at m (m.nrows - 1 - i))
   half_row = row_of_rows (half m.ncols) (reversed_right m) i ∙ right_at
 
-  pub half_value : (p : ℕ) → well_formed 65536 p m ≡ Good → (j : ℕ) → value_at (right_half m) i j ≡ value_at m (m.nrows - 1 - i) (half m.ncols + j)
+  pub half_value : (p : ℕ) → well_formed 65536 p m ≡ Ok tt → (j : ℕ) → value_at (right_half m) i j ≡ value_at m (m.nrows - 1 - i) (half m.ncols + j)
   unfolding reversed_right
   half_value p good j =
       value_written (half m.ncols) (reversed_right m) i j (rw length-table h)
@@ -124,7 +124,7 @@ module _ (h : ℕ) (es : List Entry) where
   val_at k = ap (λ (l : List ℕ). get_or l k 0) (map-map (λ (e : Entry). e.value) moved kept) ∙ get_or-map (λ (e : Entry). e.value) kept k (entry 0 0)
 
   -- columns below h + n that climb
-  pub right_columns : (n : ℕ) → columns_test (h + n) (map (λ e. e.col) es) ≡ Good → columns_test n (map (λ e. e.col) (right_of h es)) ≡ Good
+  pub right_columns : (n : ℕ) → columns_test (h + n) (map (λ e. e.col) es) ≡ Ok tt → columns_test n (map (λ e. e.col) (right_of h es)) ≡ Ok tt
   right_columns n good = climbs_good n _ (record { below = below; rises = rises })
     where
       climbs : Climbs (h + n) (map (λ (e : Entry). e.col) es)
@@ -154,20 +154,20 @@ module _ (h : ℕ) (es : List Entry) where
           let a : i < length kept = omega arith in
           omega (arith, col_at i, col_at k, high i a, up i k l c)
 
-  pub right_values : (p : ℕ) → values_test Residue p (map (λ e. e.value) es) ≡ Good → values_test Residue p (map (λ e. e.value) (right_of h es)) ≡ Good
+  pub right_values : (p : ℕ) → values_test Residue p (map (λ e. e.value) es) ≡ Ok tt → values_test Residue p (map (λ e. e.value) (right_of h es)) ≡ Ok tt
   unfolding values_test
   right_values p good = all_good _ _ (λ k l. rw (val_at k) (each k (omega (arith, vals_long))))
     where
       at : (k : ℕ) → get_or (map (λ (e : Entry). e.value) es) k 0 ≡ (get_or es k (entry 0 0)).value
       at k = get_or-map (λ (e : Entry). e.value) es k (entry 0 0)
 
-      each : (k : ℕ) → k < length kept → value_test Residue p (get_or kept k (entry 0 0)).value ≡ Good
-      each = kept_each (λ (e : Entry). leb h e.col) (entry 0 0) (λ (e : Entry). value_test Residue p e.value ≡ Good) es (λ k l t.
+      each : (k : ℕ) → k < length kept → value_test Residue p (get_or kept k (entry 0 0)).value ≡ Ok tt
+      each = kept_each (λ (e : Entry). leb h e.col) (entry 0 0) (λ (e : Entry). value_test Residue p e.value ≡ Ok tt) es (λ k l t.
           rw (at k) at (each_good _ (λ k. value_test Residue p (get_or (map (λ (e : Entry). e.value) es) k 0)) good k (omega (arith, length-map es (λ (e : Entry). e.value)))))
 
 -- a good matrix stays good
-module _ (p : ℕ) (m : Matrix) (good : take_rev_test p m ≡ Good) where
-  formed : well_formed 65536 p m ≡ Good
+module _ (p : ℕ) (m : Matrix) (good : take_rev_test p m ≡ Ok tt) where
+  formed : well_formed 65536 p m ≡ Ok tt
   unfolding take_rev_test
   formed = (lowest_good _ _ good).0
 
@@ -175,7 +175,7 @@ module _ (p : ℕ) (m : Matrix) (good : take_rev_test p m ≡ Good) where
   unfolding take_rev_test odd half
   even = let e : m.ncols % 2 ≡ 0 = eqb-true _ _ (not-false _ (refuse_good _ _ (lowest_good _ _ (lowest_good _ _ good).1).0)) in omega arith
 
-  size : size_test 65536 (length (reversed_right m)) (half m.ncols) (length (flatten (reversed_right m))) ≡ Good
+  size : size_test 65536 (length (reversed_right m)) (half m.ncols) (length (flatten (reversed_right m))) ≡ Ok tt
   unfolding size_test refuse well_formed
   size =
       let s = small 65536 m.nrows m.ncols (length m.values) (lowest_good _ _ (lowest_good _ _ formed).1).0 in
@@ -186,7 +186,7 @@ module _ (p : ℕ) (m : Matrix) (good : take_rev_test p m ≡ Good) where
         le-ltb 65536 (length (flatten (reversed_right m))) (omega (arith, made.long, count_le (leb (half m.ncols)) m.col_idcs, (formed_laid 65536 p m formed).shape.col_each, s.few)),
       )
 
-  pub half_well_formed : well_formed 65536 p (right_half m) ≡ Good
+  pub half_well_formed : well_formed 65536 p (right_half m) ≡ Ok tt
   unfolding well_formed
   half_well_formed =
       rows_well_formed p (half m.ncols) (reversed_right m) (lowest_good _ _ formed).0 size

@@ -1,5 +1,6 @@
 -- `sort_rows_by_pivot`: its result has the matrix's rows, each once, in the order of the table, and is as well formed.
 -- Assumes nothing.
+use Rattle.std.specs.Prelude.{Ok}
 use mathlib.Core.Path.{◌≡◌, refl, sym, ap, ◌∙◌}
 use mathlib.Core.List.{List, [], map, flatten}
 use Prim.Native.Nat.{ℕ, ◌<◌}
@@ -9,7 +10,6 @@ use Rattle.sparse.specs.Matrix.{Matrix, value_at}
 use Rattle.sparse.specs.Pivots.{named}
 use Rattle.sparse.specs.Rows.{Entry, row_at, compressed}
 use Rattle.sparse.specs.Tests.{size_test, columns_test, values_test, well_formed}
-use Rattle.sparse.specs.declared.Tested.TheVariants.{Good}
 use Rattle.sparse.specs.declared.inside.Clause.TheVariants.{Residue}
 use Rattle.sparse.proofs.Firsts.{lowest_good, lowest_next, lowest_last}
 use Rattle.writing.proofs.WellFormed.{rows_well_formed, given_columns, given_values}
@@ -29,13 +29,13 @@ order pivots i = get_or (named pivots) i 0
 abbrev pub sorted : Matrix → List ℕ → Matrix
 sorted m pivots = compressed m.ncols (map (row_at m) (named pivots))
 
-module _ (p : ℕ) (m : Matrix) (pivots : List ℕ) (good : table_test p m pivots ≡ Good) where
+module _ (p : ℕ) (m : Matrix) (pivots : List ℕ) (good : table_test p m pivots ≡ Ok tt) where
   -- each row of the matrix is named exactly once
   pub sorted_permutes : Permutes m.nrows (order pivots)
   sorted_permutes = once_permutes m.nrows (named pivots) (sort_once p m pivots good)
 
   -- the matrix is well formed
-  formed : well_formed 65536 p m ≡ Good
+  formed : well_formed 65536 p m ≡ Ok tt
   unfolding table_test well_formed
   formed =
       let one = lowest_good _ _ good in
@@ -56,7 +56,7 @@ module _ (p : ℕ) (m : Matrix) (pivots : List ℕ) (good : table_test p m pivot
         ∙ ap (λ (es : List Entry). value_of es j) picked
         ∙ sym (stored m (well_formed_lem p m formed) (order pivots i) j (sorted_permutes.below i h))
 
-  pub sorted_well_formed : well_formed 65536 p (sorted m pivots) ≡ Good
+  pub sorted_well_formed : well_formed 65536 p (sorted m pivots) ≡ Ok tt
   unfolding table_test
   sorted_well_formed =
       rows_well_formed p m.ncols (map (row_at m) (named pivots)) (lowest_good _ _ good).0 size
@@ -66,5 +66,5 @@ module _ (p : ℕ) (m : Matrix) (pivots : List ℕ) (good : table_test p m pivot
       row_of : (i : ℕ) → i < length (map (row_at m) (named pivots)) → i < m.nrows
       row_of i h = omega (arith, (sort_sized p m pivots good).many)
 
-      size : size_test 65536 (length (map (row_at m) (named pivots))) m.ncols (length (flatten (map (row_at m) (named pivots)))) ≡ Good
+      size : size_test 65536 (length (map (row_at m) (named pivots))) m.ncols (length (flatten (map (row_at m) (named pivots)))) ≡ Ok tt
       size = rw ((sort_sized p m pivots good).many, (sort_sized p m pivots good).long) (lowest_good _ _ (lowest_good _ _ good).1).0

@@ -1,5 +1,6 @@
 -- The right half of a matrix, its rows reversed: how many rows and entries it has, and a loop that writes it.
 -- Assumes nothing.
+use Rattle.std.specs.Prelude.{Ok}
 use mathlib.Core.Path.{◌≡◌, refl, sym, ap, ◌∙◌}
 use mathlib.Core.Bool.{Bool}
 use mathlib.Core.List.{List, [], flatten}
@@ -7,6 +8,7 @@ use Prim.Native.Nat.{ℕ, zero, suc, ◌+◌, ◌-◌, ◌<◌}
 use native.Mathlib.Omega.{arith}
 use lib.Dec.{leb}
 use lib.ListN.{length, get_or, set}
+use Rattle.sparse.specs.Refusals.{Tested}
 use Rattle.lists.specs.Find.{count}
 use Rattle.lists.specs.Sum.{Σ}
 use Rattle.lists.specs.Table.{table}
@@ -16,8 +18,6 @@ use Rattle.lists.proofs.Tables.{length-table, get_or-table, table_ext}
 use Rattle.sparse.specs.Lent.{Lent, lent, room_test}
 use Rattle.sparse.specs.Matrix.{Matrix, row}
 use Rattle.sparse.specs.Rows.{Entry, entries, rows_of, row_at, compressed}
-use Rattle.sparse.specs.declared.Tested.{Tested}
-use Rattle.sparse.specs.declared.Tested.TheVariants.{Good}
 use Rattle.sparse.proofs.Cuts.{Laid, formed_laid}
 use Rattle.sparse.proofs.Firsts.{lowest_good}
 use Rattle.meaning.proofs.RowLists.{flatten_snoc, compressed_rows}
@@ -66,7 +66,7 @@ right_count m h laid =
     ∙ sym (count_map (leb h) (λ (e : Entry). e.col) (flatten (rows_of m)))
     ∙ ap (λ (x : Matrix). count (leb h) x.col_idcs) (compressed_rows m laid)
 
-module _ (p : ℕ) (m : Matrix) (e : take_rev_test p m ≡ Good) where
+module _ (p : ℕ) (m : Matrix) (e : take_rev_test p m ≡ Ok tt) where
   half_laid : Laid m
   unfolding take_rev_test
   half_laid = formed_laid 65536 p m (lowest_good _ _ e).0
@@ -81,7 +81,7 @@ module _ (p : ℕ) (m : Matrix) (e : take_rev_test p m ≡ Good) where
   unfolding right_rows reversed_right
   half_rows = table_ext m.nrows _ _ (λ i l. ap (right_of (half m.ncols)) (sym (row_at_lem m (m.nrows - 1 - i) (omega arith))))
 
-  pub half_fits : (l : Lent) {n : ℕ} {s : Tested} → n ≡ count (leb (half m.ncols)) m.col_idcs → s ≡ room_test m.nrows n l → s ≡ Good → RightsFit m.nrows (half m.ncols) m.row_ptrs m.col_idcs m.values l
+  pub half_fits : (l : Lent) {n : ℕ} {s : Tested} → n ≡ count (leb (half m.ncols)) m.col_idcs → s ≡ room_test m.nrows n l → s ≡ Ok tt → RightsFit m.nrows (half m.ncols) m.row_ptrs m.col_idcs m.values l
   half_fits l n q g = record {
     same = half_laid.shape.col_each;
     cut = half_laid.rows;

@@ -1,5 +1,6 @@
 -- What the tests before `sort_rows_by_pivot` leave: the table names each row once, and the rows it names are as many entries as the matrix has.
 -- Assumes nothing.
+use Rattle.std.specs.Prelude.{Ok}
 use mathlib.Core.Path.{◌≡◌, refl, sym, ap, ◌∙◌}
 use mathlib.Core.Bool.{not}
 use mathlib.Core.List.{List, [], ◌∷◌, map, flatten}
@@ -8,14 +9,13 @@ use native.Mathlib.Omega.{arith}
 use lib.Dec.{leb, eqb}
 use lib.ListN.{length, get_or, length-map}
 use borrow.Author.Tests.{eqb-true, not-false, leb-false}
+use Rattle.sparse.specs.Refusals.{Tested}
 use Rattle.lists.specs.Find.{count}
 use Rattle.lists.proofs.Find.{any_false}
 use Rattle.sparse.specs.Lent.{Lent, room_test}
 use Rattle.sparse.specs.Matrix.{Matrix}
 use Rattle.sparse.specs.Pivots.{named, pivots_test}
 use Rattle.sparse.specs.Rows.{Entry, row_at}
-use Rattle.sparse.specs.declared.Tested.{Tested}
-use Rattle.sparse.specs.declared.Tested.TheVariants.{Good}
 use Rattle.sparse.proofs.Cuts.{Laid}
 use Rattle.sparse.proofs.Firsts.{lowest_good, refuse_good, neither}
 use Rattle.writing.proofs.MatrixRows.{matrix_laid, rows_each, rows_long}
@@ -27,7 +27,7 @@ use Rattle.moves.specs.Parts.{rows_named}
 use Rattle.moves.proofs.Totals.{Once, once_many, length-once}
 
 -- 12 finds nothing: the table names each row once, and nothing else
-pub named_once : (n : ℕ) (pivots : List ℕ) → pivots_test n pivots ≡ Good → Once n (named pivots)
+pub named_once : (n : ℕ) (pivots : List ℕ) → pivots_test n pivots ≡ Ok tt → Once n (named pivots)
 unfolding pivots_test
 named_once n pivots e =
     let h = neither _ _ (refuse_good _ _ e) in
@@ -40,7 +40,7 @@ map_below : {A : Type 0} (n : ℕ) (f g : ℕ → A) (xs : List ℕ) → ((i : �
 map_below n f g [] e h = refl
 map_below n f g (x ∷ xs) e h = λ j. e x (h 0 (omega arith)) j ∷ map_below n f g xs e (λ k l. h (suc k) (omega arith)) j
 
-module _ (p : ℕ) (m : Matrix) (pivots : List ℕ) (e : table_test p m pivots ≡ Good) where
+module _ (p : ℕ) (m : Matrix) (pivots : List ℕ) (e : table_test p m pivots ≡ Ok tt) where
   pub sort_laid : Laid m
   unfolding table_test
   sort_laid = matrix_laid p m (lowest_good _ _ (lowest_good _ _ (lowest_good _ _ (lowest_good _ _ e).1).1).1).0
@@ -60,7 +60,7 @@ module _ (p : ℕ) (m : Matrix) (pivots : List ℕ) (e : table_test p m pivots �
   unfolding rows_named
   sort_rows = map_below m.nrows _ _ (named pivots) (λ i l. sym (row_at_lem m i l)) sort_once.below
 
-  pub sort_fits : (l : Lent) {s : Tested} → s ≡ room_test m.nrows (length m.values) l → s ≡ Good → NamedFit m.row_ptrs m.col_idcs m.values pivots l
+  pub sort_fits : (l : Lent) {s : Tested} → s ≡ room_test m.nrows (length m.values) l → s ≡ Ok tt → NamedFit m.row_ptrs m.col_idcs m.values pivots l
   sort_fits l q g = record {
     rows = m.nrows;
     same = sort_laid.shape.col_each;

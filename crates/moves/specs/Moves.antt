@@ -6,13 +6,11 @@ use Rattle.pivots.specs.Tables.{table_test}
 use Rattle.sparse.specs.Lent.{Lent, Outcome}
 use Rattle.sparse.specs.Matrix.{Matrix}
 use Rattle.sparse.specs.Pivots.{named}
-use Rattle.sparse.specs.Put.{putting}
-use Rattle.sparse.specs.Refusals.{refuse, lowest}
+use Rattle.sparse.specs.Put.{putting, Built}
+use Rattle.sparse.specs.Refusals.{refuse, lowest, Tested}
 use Rattle.sparse.specs.Rows.{Entry, entry, row_at}
 use Rattle.sparse.specs.Tests.{well_formed}
-use Rattle.sparse.specs.declared.Built.{Built}
 use Rattle.sparse.specs.declared.Refusal.TheVariants.{Mismatch}
-use Rattle.sparse.specs.declared.Tested.{Tested}
 
 -- `sort_rows_by_pivot`: the rows in the order of the table
 unfoldable pub sort_rows_by_pivot : ℕ → Matrix → List ℕ → Lent → Outcome Built Lent

@@ -11,7 +11,7 @@ ghost use Rattle.moves.specs.Moves.{right_of, take_rev_test, take_rev_right_half
 ghost use Rattle.moves.specs.Parts.{right_rows};
 
 use sparse::inside::{room_test, well_formed};
-use sparse::{Built, MAX_ENTRIES, Refusal, Tested};
+use sparse::{MAX_ENTRIES, Refusal};
 use writing::inside::put_entry;
 
 // The columns from n/2 on, renumbered from 0, the rows reversed; or the lowest of 1 to 6, 11 and 14 that
@@ -26,23 +26,17 @@ pub fn take_rev_right_half(
     out_ptrs: &mut [usize],
     out_cols: &mut [u32],
     out_vals: &mut [u32],
-) -> Built
+) -> Result<usize, Refusal>
     ensures { outcome result (lent out_ptrs.new out_cols.new out_vals.new) ≡ take_rev_right_half p (matrix nrows ncols row_ptrs.now col_idcs.now values.now) (lent out_ptrs.old out_cols.old out_vals.old) }
 {
-    let found = take_rev_test(p, nrows, ncols, row_ptrs, col_idcs, values);
-    if let Tested::Refused(why) = found {
-        return Built::Refused(why);
-    }
+    take_rev_test(p, nrows, ncols, row_ptrs, col_idcs, values)?;
     let half = ncols / 2;
     let entries = count_from(half, col_idcs);
-    let room = room_test(nrows, entries, out_ptrs, out_cols, out_vals);
-    if let Tested::Refused(why) = room {
-        return Built::Refused(why);
-    }
+    room_test(nrows, entries, out_ptrs, out_cols, out_vals)?;
     write_right(
         nrows, half, row_ptrs, col_idcs, values, out_ptrs, out_cols, out_vals,
     );
-    Built::Made(entries)
+    Ok(entries)
 }
 
 // 1 to 6 of the matrix, and 11.
@@ -53,17 +47,14 @@ fn take_rev_test(
     row_ptrs: &[usize],
     col_idcs: &[u32],
     values: &[u32],
-) -> Tested
+) -> Result<(), Refusal>
     ensures { result ≡ take_rev_test p (matrix nrows ncols row_ptrs.now col_idcs.now values.now) }
 {
-    let formed = well_formed(MAX_ENTRIES, p, nrows, ncols, row_ptrs, col_idcs, values);
-    if let Tested::Refused(why) = formed {
-        return Tested::Refused(why);
-    }
+    well_formed(MAX_ENTRIES, p, nrows, ncols, row_ptrs, col_idcs, values)?;
     if ncols % 2 != 0 {
-        return Tested::Refused(Refusal::Mismatch);
+        return Err(Refusal::Mismatch);
     }
-    Tested::Good
+    Ok(())
 }
 
 // How many columns are h or more: the entries of the result, so that 14 is decided before any is
@@ -71,16 +62,7 @@ fn take_rev_test(
 fn count_from(h: u32, cols: &[u32]) -> usize
     ensures { result ≡ count (leb h) cols.now }
 {
-    let mut found = 0;
-    let mut k = 0;
-    while k < cols.len() {
-        let col = cols[k];
-        k += 1;
-        if h <= col {
-            found += 1;
-        }
-    }
-    found
+    cols.iter().filter(|col| h <= **col).count()
 }
 
 // Writes the columns from h on of each row, the last row first.
@@ -100,8 +82,7 @@ fn write_right(
     out_ptrs[0] = 0;
     let rows = nrows as usize;
     let mut at = 0;
-    let mut i = 0;
-    while i < rows {
+    for i in 0..rows {
         at = put_right_row(
             h,
             row_ptrs,
@@ -112,8 +93,7 @@ fn write_right(
             out_cols,
             out_vals,
         );
-        i += 1;
-        out_ptrs[i] = at;
+        out_ptrs[i + 1] = at;
     }
 }
 
@@ -151,11 +131,7 @@ fn put_right(
     ensures { put result out_cols.new out_vals.new ≡ more (right_of h (entries cols.now vals.now)) (put at out_cols.old out_vals.old) }
 {
     let mut next = at;
-    let mut k = 0;
-    while k < cols.len() {
-        let col = cols[k];
-        let val = vals[k];
-        k += 1;
+    for (&col, &val) in cols.iter().zip(vals) {
         if col < h {
             continue;
         }

@@ -8,8 +8,8 @@ ghost use Rattle.moves.specs.Moves.{sort_rows_by_pivot};
 ghost use Rattle.moves.specs.Parts.{rows_named};
 
 use pivots::inside::{MARK, table_test};
+use sparse::Refusal;
 use sparse::inside::room_test;
-use sparse::{Built, Tested};
 use writing::inside::put_matrix_row;
 
 // The matrix with its rows in the order of the table; or the lowest of 1 to 6, 12 and 14 that applies,
@@ -25,22 +25,16 @@ pub fn sort_rows_by_pivot(
     out_ptrs: &mut [usize],
     out_cols: &mut [u32],
     out_vals: &mut [u32],
-) -> Built
+) -> Result<usize, Refusal>
     ensures { outcome result (lent out_ptrs.new out_cols.new out_vals.new) ≡ sort_rows_by_pivot p (matrix nrows ncols row_ptrs.now col_idcs.now values.now) pivots.now (lent out_ptrs.old out_cols.old out_vals.old) }
 {
-    let found = table_test(p, nrows, ncols, row_ptrs, col_idcs, values, pivots);
-    if let Tested::Refused(why) = found {
-        return Built::Refused(why);
-    }
+    table_test(p, nrows, ncols, row_ptrs, col_idcs, values, pivots)?;
     let entries = values.len();
-    let room = room_test(nrows, entries, out_ptrs, out_cols, out_vals);
-    if let Tested::Refused(why) = room {
-        return Built::Refused(why);
-    }
+    room_test(nrows, entries, out_ptrs, out_cols, out_vals)?;
     write_named(
         row_ptrs, col_idcs, values, pivots, out_ptrs, out_cols, out_vals,
     );
-    Built::Made(entries)
+    Ok(entries)
 }
 
 // Writes the rows that the table names; `row` of them are written.
@@ -59,10 +53,7 @@ fn write_named(
     out_ptrs[0] = 0;
     let mut at = 0;
     let mut row = 0;
-    let mut k = 0;
-    while k < pivots.len() {
-        let named = pivots[k];
-        k += 1;
+    for &named in pivots {
         if named == MARK {
             continue;
         }

@@ -1,5 +1,6 @@
 -- Rows taken from a fresh start: each leaves a state, and each row taken was answered None exactly if it is a combination of the rows accepted before it.
 -- Assumes nothing.
+use Rattle.std.specs.Prelude.{Ok}
 use mathlib.Core.Path.{◌≡◌, refl, sym, subst}
 use mathlib.Core.Bool.{Bool}
 use mathlib.Core.List.{[]}
@@ -11,7 +12,6 @@ use Rattle.sparse.specs.Lent.{outcome}
 use Rattle.sparse.specs.Matrix.{Matrix}
 use Rattle.sparse.specs.Rows.{rows_of, row_at}
 use Rattle.sparse.specs.Tests.{clean}
-use Rattle.sparse.specs.declared.Tested.TheVariants.{Good}
 use Rattle.state.specs.Fresh.{counts}
 use Rattle.state.specs.declared.Counts.{Counts}
 use Rattle.state.specs.declared.Mode.{Mode}
@@ -33,7 +33,7 @@ use Rattle.nights.proofs.Folds.{run_in, Ends, rows_end}
 use Rattle.nights.proofs.Rows.{Kept}
 
 -- the rows of a clean matrix are clean
-pub rows_clean : (p : ℕ) (a : Matrix) → clean 65536 p a ≡ Good → (i : ℕ) → i < length (rows_of a) → CleanRow p a.ncols (get_or (rows_of a) i [])
+pub rows_clean : (p : ℕ) (a : Matrix) → clean 65536 p a ≡ Ok tt → (i : ℕ) → i < length (rows_of a) → CleanRow p a.ncols (get_or (rows_of a) i [])
 unfolding row_at
 rows_clean p a e i h =
     let l : i < a.nrows = omega (arith, rows_many a) in

@@ -1,5 +1,6 @@
 -- What `from_matrix` answers means, from its fresh start.
 -- Assumes nothing.
+use Rattle.std.specs.Prelude.{Ok}
 use mathlib.Core.Path.{◌≡◌, ap, ◌∙◌}
 use mathlib.Core.Bool.{Bool}
 use Prim.Native.Nat.{ℕ}
@@ -8,7 +9,6 @@ use lib.ListN.{take}
 use Rattle.sparse.specs.Lent.{outcome, unless}
 use Rattle.sparse.specs.Matrix.{Matrix}
 use Rattle.sparse.specs.Rows.{rows_of}
-use Rattle.sparse.specs.declared.Tested.TheVariants.{Good}
 use Rattle.state.specs.Fresh.{counts}
 use Rattle.state.specs.declared.Counts.{Counts}
 use Rattle.state.specs.declared.Mode.{Mode}
@@ -23,7 +23,7 @@ use Rattle.nights.specs.Meant.{Answers}
 use Rattle.nights.proofs.Anews.{anew_ends}
 use Rattle.nights.proofs.Folds.{run_in, Ends, ends_few}
 
-module _ (on check : Bool) (p : ℕ) (mode : Mode) (a : Matrix) (w : Night) (good : from_matrix_test p mode a w.dense w.answers w.memory.u_ptrs w.memory.l_ptrs w.memory.pivots ≡ Good) where
+module _ (on check : Bool) (p : ℕ) (mode : Mode) (a : Matrix) (w : Night) (good : from_matrix_test p mode a w.dense w.answers w.memory.u_ptrs w.memory.l_ptrs w.memory.pivots ≡ Ok tt) where
   abbrev c : Counts
   c = counts mode p a.ncols 0 0 0 0
 

@@ -1,5 +1,6 @@
 -- A fold of rows: those that it takes are the first, and their answers have their meaning.
 -- Assumes nothing.
+use Rattle.std.specs.Prelude.{Err, Ok}
 use mathlib.Core.Path.{◌≡◌, refl, sym, ap, subst, ◌∙◌}
 use mathlib.Core.Bool.{Bool, true, false, ◌&&◌, cond}
 use mathlib.Core.List.{List, [], ◌∷◌, ◌++◌, map, map-append}
@@ -8,13 +9,11 @@ use native.Mathlib.Decide.{dec_lt}
 use native.Mathlib.Omega.{arith}
 use lib.ListN.{length, get_or, take, length-map}
 use lib.Seq.{take_all, take-append_seam, append_snoc}
+use Rattle.sparse.specs.Refusals.{Tested}
 use Rattle.sparse.specs.Lent.{Outcome, outcome, unless}
 use Rattle.sparse.specs.Rows.{Entry}
-use Rattle.sparse.specs.declared.Tested.{Tested}
-use Rattle.sparse.specs.declared.Tested.TheVariants.{Good, Refused as Unfit}
 use Rattle.state.specs.declared.Counts.{Counts}
-use Rattle.walk.specs.Step.{is_none}
-use Rattle.walk.specs.declared.Answer.{Answer}
+use Rattle.walk.specs.Step.{is_none, Answer}
 use Rattle.steps.specs.History.{Told, told}
 use Rattle.steps.specs.Rows.{CleanRow}
 use Rattle.stepping.specs.Take.{room_asked, row_step}
@@ -85,8 +84,8 @@ module _ (on check : Bool) (d : Run) (c : Counts) (b : List ℕ) where
       more = ts ++ (told es (row_step on r.counts es w.memory).answer.answer ∷ [])
 
       go : (f : Tested) → room_asked r.counts es w.memory ≡ f → Ends d c b (rows_of_told ts ++ (es ∷ rs)) (take_rows on check rs (unless (λ why. Stopped (stop why r)) f w after))
-      go (Unfit why) e = over_end rs (es ∷ rs) (Stopped (stop why r)) w ts refl k
-      go Good e =
+      go (Err why) e = over_end rs (es ∷ rs) (Stopped (stop why r)) w ts refl k
+      go (Ok _) e =
           subst (λ (all : List (List Entry)). Ends d c b all (take_rows on check rs after)) (ap (λ (xs : List (List Entry)). xs ++ rs) (map-append _ ts _) ∙ append_snoc (rows_of_told ts) es rs)
           (rest after.answer after.memory more
           (subst (λ (y : Run). Kept c b more y after.memory) (sym (run_ended check d (row_step on r.counts es w.memory).answer.answer (run (r.taken + 1) (row_step on r.counts es w.memory).answer.counts))) (kept_more on k es row e)))

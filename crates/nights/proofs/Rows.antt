@@ -1,5 +1,6 @@
 -- Rows taken one after another: after each, U has the history of the rows taken, and their answers have their meaning.
 -- Assumes nothing.
+use Rattle.std.specs.Prelude.{None, Ok}
 use mathlib.Core.Path.{◌≡◌, sym, ap, subst, ◌∙◌}
 use mathlib.Core.Logic.{◌↔◌}
 use mathlib.Core.Bool.{Bool}
@@ -7,16 +8,14 @@ use mathlib.Core.List.{List, [], ◌∷◌, ◌++◌, map, map-append}
 use Prim.Native.Nat.{ℕ, ◌+◌, ◌≤◌, ◌<◌}
 use native.Mathlib.Omega.{arith}
 use lib.ListN.{length, set, length-append, length-map}
+use Rattle.walk.specs.Step.{Answer}
 use Rattle.lists.specs.Onto.{◌onto◌}
 use Rattle.lists.proofs.Ontos.{onto_more}
 use Rattle.linear.specs.Combination.{Combination}
 use Rattle.sparse.specs.Put.{cols_of, values_of}
 use Rattle.sparse.specs.Rows.{Entry, entries}
-use Rattle.sparse.specs.declared.Tested.TheVariants.{Good}
 use Rattle.meaning.proofs.RowLists.{entries_of_lem}
 use Rattle.state.specs.declared.Counts.{Counts}
-use Rattle.walk.specs.declared.Answer.{Answer}
-use Rattle.walk.specs.declared.Answer.TheVariants.{None}
 use Rattle.steps.specs.History.{Told, told, answered, accepted, values_in}
 use Rattle.steps.specs.Rows.{value_of, CleanRow}
 use Rattle.steps.proofs.Histories.{history_none}
@@ -53,7 +52,7 @@ same_row : (es : List Entry) → entries (cols_of es) (values_of es) ≡ es
 unfolding cols_of values_of
 same_row es = entries_of_lem es
 
-module _ (on : Bool) {c : Counts} {b : List ℕ} {ts : List Told} {r : Run} {w : Written} (k : Kept c b ts r w) (es : List Entry) (row : CleanRow c.modulus c.ncols es) (room : room_asked r.counts es w.memory ≡ Good) where
+module _ (on : Bool) {c : Counts} {b : List ℕ} {ts : List Told} {r : Run} {w : Written} (k : Kept c b ts r w) (es : List Entry) (row : CleanRow c.modulus c.ncols es) (room : room_asked r.counts es w.memory ≡ Ok tt) where
   abbrev o : Lists
   o = lists w.memory []
 

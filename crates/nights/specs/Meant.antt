@@ -1,10 +1,9 @@
 -- What answers mean: None exactly for a combination of the rows accepted before.
-use Rattle.std.specs.Prelude.{◌≡◌, ◌↔◌, List, [], ◌∷◌, ◌++◌, map, ℕ, length, take}
+use Rattle.walk.specs.Step.{Answer}
+use Rattle.std.specs.Prelude.{◌≡◌, ◌↔◌, List, [], ◌∷◌, ◌++◌, map, ℕ, length, take, None}
 use Rattle.lists.specs.Onto.{◌onto◌}
 use Rattle.linear.specs.Combination.{Combination}
 use Rattle.sparse.specs.Rows.{Entry}
-use Rattle.walk.specs.declared.Answer.{Answer}
-use Rattle.walk.specs.declared.Answer.TheVariants.{None}
 use Rattle.steps.specs.History.{Told, told, accepted, values_in}
 use Rattle.steps.specs.Rows.{value_of}
 use Rattle.telling.specs.Answers.{number}

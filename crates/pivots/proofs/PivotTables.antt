@@ -1,5 +1,6 @@
 -- A pivot table: counting what it names, and what a good one tells of each place.
 -- Assumes nothing.
+use Rattle.std.specs.Prelude.{Ok}
 use mathlib.Core.Path.{◌≡◌, refl, sym, ◌∙◌}
 use mathlib.Core.Bool.{Bool, true, false, not, ◌&&◌}
 use mathlib.Core.List.{List}
@@ -12,7 +13,6 @@ use borrow.Author.Tests.{eqb-true, ne_eqb, leb-false}
 use Rattle.lists.specs.Find.{count}
 use Rattle.lists.proofs.Find.{any_false}
 use Rattle.sparse.specs.Pivots.{mark, named, pivots_test}
-use Rattle.sparse.specs.declared.Tested.TheVariants.{Good}
 use Rattle.sparse.proofs.Firsts.{refuse_good, neither}
 use Rattle.lists.proofs.Scans.{any_kept, count_kept}
 
@@ -23,7 +23,7 @@ named_count i pivots h =
     count_kept (λ r. not (eqb r mark)) (eqb i) pivots (λ x e. let q : i ≡ x = eqb-true i x e in rw (ne_eqb x mark (λ z. omega arith)))
 
 -- 12 finds nothing: each place has the mark or a row
-pub sources : (rows : ℕ) (pivots : List ℕ) → pivots_test rows pivots ≡ Good → (k : ℕ) → k < length pivots → (get_or pivots k 0 ≡ mark) ⊎ (get_or pivots k 0 < rows)
+pub sources : (rows : ℕ) (pivots : List ℕ) → pivots_test rows pivots ≡ Ok tt → (k : ℕ) → k < length pivots → (get_or pivots k 0 ≡ mark) ⊎ (get_or pivots k 0 < rows)
 unfolding pivots_test named
 sources rows pivots good k h =
     go (eqb (get_or pivots k 0) mark) refl

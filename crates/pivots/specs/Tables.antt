@@ -2,9 +2,8 @@
 use Rattle.std.specs.Prelude.{ℕ, List, [], ◌∷◌, length}
 use Rattle.sparse.specs.Matrix.{Matrix}
 use Rattle.sparse.specs.Pivots.{pivots_test}
-use Rattle.sparse.specs.Refusals.{lowest}
+use Rattle.sparse.specs.Refusals.{lowest, Tested}
 use Rattle.sparse.specs.Tests.{modulus_test, size_test, matrix_test}
-use Rattle.sparse.specs.declared.Tested.{Tested}
 
 -- 1 to 6 of the matrix, 2 also of the table's length, 12 of the table
 unfoldable pub table_test : ℕ → Matrix → List ℕ → Tested

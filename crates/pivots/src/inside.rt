@@ -7,7 +7,7 @@ ghost use Rattle.sparse.specs.Pivots.{named, pivots_test};
 ghost use Rattle.sparse.specs.Tests.{size_test};
 
 use sparse::inside::{matrix_test, modulus_test, size_test};
-use sparse::{MAX_ENTRIES, MAX_SIDE, Refusal, Tested};
+use sparse::{MAX_ENTRIES, MAX_SIDE, Refusal};
 
 // A column without a pivot.
 pub const MARK: u32 = 4294967295;
@@ -21,73 +21,41 @@ pub fn table_test(
     col_idcs: &[u32],
     values: &[u32],
     pivots: &[u32],
-) -> Tested
+) -> Result<(), Refusal>
     ensures { result ≡ table_test p (matrix nrows ncols row_ptrs.now col_idcs.now values.now) pivots.now }
 {
-    let modulus = modulus_test(p);
-    if let Tested::Refused(why) = modulus {
-        return Tested::Refused(why);
-    }
-    let size = size_test(MAX_ENTRIES, nrows, ncols, values.len());
-    if let Tested::Refused(why) = size {
-        return Tested::Refused(why);
-    }
-    let length = length_test(pivots.len());
-    if let Tested::Refused(why) = length {
-        return Tested::Refused(why);
-    }
-    let formed = matrix_test(p, nrows, ncols, row_ptrs, col_idcs, values);
-    if let Tested::Refused(why) = formed {
-        return Tested::Refused(why);
-    }
+    modulus_test(p)?;
+    size_test(MAX_ENTRIES, nrows, ncols, values.len())?;
+    length_test(pivots.len())?;
+    matrix_test(p, nrows, ncols, row_ptrs, col_idcs, values)?;
     pivots_test(nrows, pivots)
 }
 
 // 12 of a pivot table: it names each row exactly once, and nothing else.
-pub fn pivots_test(nrows: u32, pivots: &[u32]) -> Tested
+pub fn pivots_test(nrows: u32, pivots: &[u32]) -> Result<(), Refusal>
     ensures { result ≡ pivots_test nrows pivots.now }
 {
     if names_other(nrows, pivots) {
-        return Tested::Refused(Refusal::Positions);
+        return Err(Refusal::Positions);
     }
     if misses_row(nrows, pivots) {
-        return Tested::Refused(Refusal::Positions);
+        return Err(Refusal::Positions);
     }
-    Tested::Good
+    Ok(())
 }
 
 // Whether the table names something that is no row.
 fn names_other(nrows: u32, pivots: &[u32]) -> bool
     ensures { result ≡ any (length (named pivots.now)) (λ k. leb nrows (get_or (named pivots.now) k 0)) }
 {
-    let mut k = 0;
-    while k < pivots.len() {
-        let row = pivots[k];
-        k += 1;
-        if row == MARK {
-            continue;
-        }
-        if row >= nrows {
-            return true;
-        }
-    }
-    false
+    pivots.iter().any(|row| *row != MARK && *row >= nrows)
 }
 
 // How often the table names a row.
 fn times_named(pivots: &[u32], row: u32) -> usize
     ensures { result ≡ count (eqb row) pivots.now }
 {
-    let mut times = 0;
-    let mut k = 0;
-    while k < pivots.len() {
-        let named = pivots[k];
-        k += 1;
-        if row == named {
-            times += 1;
-        }
-    }
-    times
+    pivots.iter().filter(|named| row == **named).count()
 }
 
 // Whether the table names some row not exactly once. No row has the mark's number, so counting in
@@ -95,22 +63,20 @@ fn times_named(pivots: &[u32], row: u32) -> usize
 fn misses_row(nrows: u32, pivots: &[u32]) -> bool
     ensures { result ≡ any nrows (λ i. not (eqb (count (eqb i) (named pivots.now)) 1)) }
 {
-    let mut row = 0;
-    while row < nrows {
+    for row in 0..nrows {
         if times_named(pivots, row) != 1 {
             return true;
         }
-        row += 1;
     }
     false
 }
 
 // 2 of the length of a pivot table.
-pub fn length_test(len: usize) -> Tested
+pub fn length_test(len: usize) -> Result<(), Refusal>
     ensures { result ≡ size_test 65536 0 len 0 }
 {
     if len > MAX_SIDE as usize {
-        return Tested::Refused(Refusal::Size);
+        return Err(Refusal::Size);
     }
-    Tested::Good
+    Ok(())
 }

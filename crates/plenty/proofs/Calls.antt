@@ -1,13 +1,13 @@
 -- `from_matrix` and `det` with plenty of room: every row is taken, and there is a value; all that is lent keeps its length in any case.
 -- Assumes nothing.
+use Rattle.std.specs.Prelude.{Err, Ok}
 use mathlib.Core.Path.{◌≡◌, refl, subst}
 use mathlib.Core.Bool.{Bool, true, false}
 use mathlib.Core.List.{List, []}
 use Prim.Native.Nat.{ℕ}
+use Rattle.sparse.specs.Refusals.{Tested}
 use Rattle.sparse.specs.Lent.{unless}
 use Rattle.sparse.specs.Matrix.{Matrix}
-use Rattle.sparse.specs.declared.Tested.{Tested}
-use Rattle.sparse.specs.declared.Tested.TheVariants.{Good, Refused as Unfit}
 use Rattle.state.specs.Fresh.{counts}
 use Rattle.state.specs.declared.Counts.{Counts}
 use Rattle.state.specs.declared.Mode.{Mode}
@@ -49,10 +49,10 @@ module _ (on check : Bool) (p : ℕ) (mode : Mode) (a : Matrix) (w : Night) wher
   from_matrix_lengths = go test refl
     where
       go : (t : Tested) → test ≡ t → SameLengths (unless Refused t w (take_anew on check p mode a w)).memory w
-      go Good e = anew_lengths on check (from_anew p mode a w e)
-      go (Unfit why) e = same_night w
+      go (Ok _) e = anew_lengths on check (from_anew p mode a w e)
+      go (Err why) e = same_night w
 
-  module _ (good : test ≡ Good) where
+  module _ (good : test ≡ Ok tt) where
     from_settled : Settled p a.ncols mode (run_in (run 0 c) (from_matrix on check p mode a w).answer).counts (from_matrix on check p mode a w).memory.memory
     unfolding from_matrix unless
     from_settled = rw good (anew_settled on check (from_anew p mode a w good))
@@ -72,7 +72,7 @@ module _ (on check : Bool) (p : ℕ) (mode : Mode) (a : Matrix) (w : Night) wher
     from_matrix_ends plenty = rw good (anew_whole on check (from_anew p mode a w good) plenty)
 
 -- without a check, all rows
-pub from_matrix_whole : (on : Bool) (p : ℕ) (mode : Mode) (a : Matrix) (w : Night) → from_matrix_test p mode a w.dense w.answers w.memory.u_ptrs w.memory.l_ptrs w.memory.pivots ≡ Good → Plenty mode a.nrows a.ncols w.memory
+pub from_matrix_whole : (on : Bool) (p : ℕ) (mode : Mode) (a : Matrix) (w : Night) → from_matrix_test p mode a w.dense w.answers w.memory.u_ptrs w.memory.l_ptrs w.memory.pivots ≡ Ok tt → Plenty mode a.nrows a.ncols w.memory
     → AllTaken a.nrows (from_matrix on false p mode a w).answer
 from_matrix_whole on p mode a w good plenty = whole_taken (from_matrix_ends on false p mode a w good plenty)
 
@@ -92,10 +92,10 @@ module _ (p : ℕ) (a : Matrix) (o : Lists) where
     where
       go : (t : Tested) → det_tested ≡ t
           → SameLengths (night (unless Unvalued t o (determined p a.ncols (take_anew false true p Full a v))).memory.memory [] (unless Unvalued t o (determined p a.ncols (take_anew false true p Full a v))).memory.dense) v
-      go Good e = let l = anew_lengths false true (det_anew p a o e) in record { memory = l.memory; answers = refl; dense = l.dense }
-      go (Unfit why) e = same_night v
+      go (Ok _) e = let l = anew_lengths false true (det_anew p a o e) in record { memory = l.memory; answers = refl; dense = l.dense }
+      go (Err why) e = same_night v
 
-  module _ (good : det_tested ≡ Good) where
+  module _ (good : det_tested ≡ Ok tt) where
     -- after all rows or at a None, there is a value
     whole_valued : {k : ℕ} {x : Reduced} → Whole true k x → (l_vals l_ptrs pivots : List ℕ) → (d : Valued) × (valued p a.ncols x l_vals l_ptrs pivots ≡ Value d)
     unfolding valued

@@ -1,5 +1,6 @@
 -- A row adds at most a row of n entries to U and to L.
 -- Assumes nothing.
+use Rattle.std.specs.Prelude.{None, Some}
 use mathlib.Core.Path.{◌≡◌, refl, ap}
 use mathlib.Core.Bool.{Bool, true, false, cond}
 use mathlib.Core.List.{List}
@@ -15,9 +16,7 @@ use Rattle.state.specs.Fresh.{keeps}
 use Rattle.state.specs.declared.Counts.{Counts}
 use Rattle.state.specs.declared.Mode.{Mode}
 use Rattle.state.specs.declared.Mode.TheVariants.{Full, Pattern, None as NoL}
-use Rattle.walk.specs.Step.{is_none, Taken}
-use Rattle.walk.specs.declared.Answer.{Answer}
-use Rattle.walk.specs.declared.Answer.TheVariants.{Accepted, None}
+use Rattle.walk.specs.Step.{is_none, Taken, Answer}
 use Rattle.steps.specs.Added.{Added, NotAdded}
 use Rattle.steps.specs.History.{at_once}
 use Rattle.steps.specs.Rows.{CleanRow}
@@ -60,7 +59,7 @@ module _ (on : Bool) (c : Counts) (es : List Entry) (o : Lists) (s : Stands c o)
 
   walked_more : c.rank < c.ncols → (a : Answer) → t.answer ≡ a → OneMore c.ncols c (counts_after c a t)
   unfolding counts_after is_none
-  walked_more low (Accepted g) e =
+  walked_more low (Some g) e =
       let a : Added c.modulus c.ncols c.rank (rows_in o.memory) (heads c o s) g t = took_added on c es o s row e in
       record {
         u_fill = λ h. omega (arith, h, a.u_room, one_row_more c.rank c.ncols);

@@ -1,19 +1,18 @@
 -- A fold of rows from a fresh start: lists keep their lengths, no more is filled than the rows taken can fill, and with plenty of room every row is taken.
 -- Assumes nothing.
+use Rattle.std.specs.Prelude.{Err, Ok}
 use mathlib.Core.Path.{◌≡◌, refl, sym, ◌∙◌}
 use mathlib.Core.Bool.{Bool, true, false, ◌&&◌, cond}
 use mathlib.Core.List.{List, [], ◌∷◌, ◌++◌}
 use Prim.Native.Nat.{ℕ, suc, ◌+◌, ◌<◌}
 use native.Mathlib.Omega.{arith}
 use lib.ListN.{length, get_or, set, length-set}
+use Rattle.sparse.specs.Refusals.{Tested}
 use Rattle.sparse.specs.Lent.{Outcome, outcome, unless}
 use Rattle.sparse.specs.Rows.{Entry}
-use Rattle.sparse.specs.declared.Tested.{Tested}
-use Rattle.sparse.specs.declared.Tested.TheVariants.{Good, Refused as Unfit}
 use Rattle.state.specs.Memory.{Memory}
 use Rattle.state.specs.declared.Counts.{Counts}
-use Rattle.walk.specs.Step.{is_none}
-use Rattle.walk.specs.declared.Answer.{Answer}
+use Rattle.walk.specs.Step.{is_none, Answer}
 use Rattle.steps.specs.History.{Told, told}
 use Rattle.steps.specs.Rows.{CleanRow}
 use Rattle.stepping.specs.Take.{Lists, lists, room_asked, row_step, step_row}
@@ -45,7 +44,7 @@ checks true x e = refl
 checks false x e = e
 
 -- a row more, where there is room
-module _ (on : Bool) {c : Counts} {m : Memory} {b : List ℕ} {r : Run} {w : Written} (f : Fed c m b r w) (es : List Entry) (row : CleanRow c.modulus c.ncols es) (room : room_asked r.counts es w.memory ≡ Good) where
+module _ (on : Bool) {c : Counts} {m : Memory} {b : List ℕ} {r : Run} {w : Written} (f : Fed c m b r w) (es : List Entry) (row : CleanRow c.modulus c.ncols es) (room : room_asked r.counts es w.memory ≡ Ok tt) where
   abbrev o : Lists
   o = lists w.memory []
 
@@ -120,8 +119,8 @@ module _ (on check : Bool) (d : Run) (c : Counts) (m : Memory) (b : List ℕ) wh
 
       go : (t : Tested) → room_asked r.counts es w.memory ≡ t
           → Fed c m b (run_in d (take_rows on check rs (unless (λ why. Stopped (stop why r)) t w then)).answer) (take_rows on check rs (unless (λ why. Stopped (stop why r)) t w then)).memory
-      go (Unfit why) e = over_fed rs (Stopped (stop why r)) w refl f
-      go Good e = rest then.answer then.memory (rw (run_ended _ _) (fed_more on f es row e))
+      go (Err why) e = over_fed rs (Stopped (stop why r)) w refl f
+      go (Ok _) e = rest then.answer then.memory (rw (run_ended _ _) (fed_more on f es row e))
 
   pub rows_fed : (rs : List (List Entry)) → ((i : ℕ) → i < length rs → CleanRow c.modulus c.ncols (get_or rs i [])) → Goal rs
   unfolding take_rows then_row is_over run_in
@@ -133,7 +132,7 @@ module _ (on check : Bool) (d : Run) (c : Counts) (m : Memory) (b : List ℕ) wh
 
   -- with plenty of room, of rows in all
   module _ (rows : ℕ) (plenty : Plenty c.mode rows c.ncols m) where
-    fed_room : (r : Run) (w : Written) → Fed c m b r w → (es : List Entry) → r.taken < rows → room_asked r.counts es w.memory ≡ Good
+    fed_room : (r : Run) (w : Written) → Fed c m b r w → (es : List Entry) → r.taken < rows → room_asked r.counts es w.memory ≡ Ok tt
     fed_room r w f es low =
         room_enough r.taken rows r.counts es (lists w.memory []) f.kept.stands f.filled low
         (rw (f.kept.mode, f.kept.ncols) (plenty_same f.lists plenty))
@@ -146,7 +145,7 @@ module _ (on check : Bool) (d : Run) (c : Counts) (m : Memory) (b : List ℕ) wh
     unfolding next_row unless counted ended is_over
     next_whole es rs row rest r w f many = rw room (go (check && is_none a) refl)
       where
-        room : room_asked r.counts es w.memory ≡ Good
+        room : room_asked r.counts es w.memory ≡ Ok tt
         room = fed_room r w f es (omega arith)
 
         a : Answer

@@ -1,5 +1,6 @@
 -- A row's step that has room, and a fresh start, leave every list as long as it was.
 -- Assumes nothing.
+use Rattle.std.specs.Prelude.{None, Ok, Some}
 use mathlib.Core.Path.{◌≡◌, refl, ◌∙◌}
 use mathlib.Core.Bool.{Bool, true, false, cond}
 use mathlib.Core.List.{List, [], ◌∷◌}
@@ -14,7 +15,6 @@ use Rattle.sparse.specs.Matrix.{Matrix}
 use Rattle.sparse.specs.Pivots.{mark}
 use Rattle.sparse.specs.Put.{cols_of, values_of}
 use Rattle.sparse.specs.Rows.{Entry}
-use Rattle.sparse.specs.declared.Tested.TheVariants.{Good}
 use Rattle.state.specs.Fresh.{keeps, started}
 use Rattle.state.specs.Memory.{Memory}
 use Rattle.state.specs.Room.{room_test}
@@ -22,9 +22,7 @@ use Rattle.state.specs.declared.Counts.{Counts}
 use Rattle.state.specs.declared.Mode.{Mode}
 use Rattle.state.specs.declared.Mode.TheVariants.{Full, Pattern, None as NoL}
 use Rattle.state.proofs.Starts.{first_pointer, first_of_kept}
-use Rattle.walk.specs.Step.{Taken}
-use Rattle.walk.specs.declared.Answer.{Answer}
-use Rattle.walk.specs.declared.Answer.TheVariants.{Accepted, None}
+use Rattle.walk.specs.Step.{Taken, Answer}
 use Rattle.steps.specs.Added.{Added, NotAdded}
 use Rattle.steps.specs.Rows.{CleanRow}
 use Rattle.writing.specs.Puts.{put_at}
@@ -85,13 +83,13 @@ module _ (on : Bool) (c : Counts) (es : List Entry) (o : Lists) (s : Stands c o)
   abbrev t : Taken
   t = step_of on c es o.memory
 
-  module _ (room : room_test c o.memory ≡ Good) where
+  module _ (room : room_test c o.memory ≡ Ok tt) where
     l_long : length t.l ≤ c.rank + 1 → SameLower (with_l c.mode c.l_rows c.l_fill t.l (lower_of o.memory)) (lower_of o.memory)
     l_long few = lower_long c.mode (c.rank + 1) c.l_rows c.l_fill t.l (lower_of o.memory) few (l_free c o.memory room)
 
     stored_long : (a : Answer) → t.answer ≡ a → SameLists (stored c a t o.memory) o.memory
     unfolding stored with_u
-    stored_long (Accepted g) e =
+    stored_long (Some g) e =
         let a : Added c.modulus c.ncols c.rank (rows_in o.memory) (heads c o s) g t = took_added on c es o s row e in
         let free : URoom c.ncols c.rank c.u_fill o.memory.u_cols o.memory.u_vals o.memory.u_ptrs = u_free c o.memory room (omega (arith, a.within)) in
         let l = l_long a.l_room in
@@ -109,7 +107,7 @@ module _ (on : Bool) (c : Counts) (es : List Entry) (o : Lists) (s : Stands c o)
         let l = l_long (omega (arith, a.l_room)) in
         record { u_cols = refl; u_vals = refl; u_ptrs = refl; l_cols = l.cols; l_vals = l.vals; l_ptrs = l.ptrs; pivots = refl }
 
-  pub step_long : room_asked c es o.memory ≡ Good → SameLists (step_row on c es o).memory.memory o.memory
+  pub step_long : room_asked c es o.memory ≡ Ok tt → SameLists (step_row on c es o).memory.memory o.memory
   step_long room =
       step_ways on c es o (λ r. SameLists r.memory.memory o.memory)
       (λ e. same_itself o.memory)

@@ -1,5 +1,6 @@
 -- Where there is plenty of room, and no more is filled than rows taken can fill, there is room for one row more.
 -- Assumes nothing.
+use Rattle.std.specs.Prelude.{Ok}
 use mathlib.Core.Path.{◌≡◌, refl}
 use mathlib.Core.Logic.{⊎_elim}
 use mathlib.Core.Bool.{true, false}
@@ -12,7 +13,6 @@ use lib.Dec.{leb, ltb}
 use Rattle.lists.proofs.Find.{told}
 use Rattle.sparse.specs.Refusals.{refuse}
 use Rattle.sparse.specs.Rows.{Entry}
-use Rattle.sparse.specs.declared.Tested.TheVariants.{Good}
 use Rattle.state.specs.Fresh.{keeps}
 use Rattle.state.specs.Memory.{Memory, places}
 use Rattle.state.specs.Room.{u_full, pattern_full, l_full, room_test}
@@ -64,12 +64,12 @@ module _ (taken rows : ℕ) (c : Counts) (m : Memory) (f : Filled taken c) (low 
   l_room Pattern p = pattern_room {mode = Pattern} refl p
   l_room None p = refl
 
-  plenty_room : Plenty c.mode rows c.ncols m → room_test c m ≡ Good
+  plenty_room : Plenty c.mode rows c.ncols m → room_test c m ≡ Ok tt
   unfolding room_test refuse
   plenty_room p = rw (u_room p, l_room c.mode p)
 
 -- one row more has room
-pub room_enough : (taken rows : ℕ) (c : Counts) (es : List Entry) (o : Lists) → Stands c o → Filled taken c → taken < rows → Plenty c.mode rows c.ncols o.memory → room_asked c es o.memory ≡ Good
+pub room_enough : (taken rows : ℕ) (c : Counts) (es : List Entry) (o : Lists) → Stands c o → Filled taken c → taken < rows → Plenty c.mode rows c.ncols o.memory → room_asked c es o.memory ≡ Ok tt
 unfolding room_asked
 room_enough taken rows c es o s f low p =
     ⊎_elim (λ e. rw e) (λ e. rw e (plenty_room taken rows c o.memory f low (rank_lower c es o s e) p)) (told (at_once c.ncols c.rank es))

@@ -1,5 +1,6 @@
 -- A row of the identity: 1 at its own column, and nothing but zeros stored elsewhere.
 -- Assumes nothing.
+use Rattle.std.specs.Prelude.{Ok}
 use mathlib.Core.Path.{◌≡◌, refl, sym, ap, ◌∙◌}
 use mathlib.Core.Bool.{Bool, true, false, not, ◌&&◌, cond, true≢false}
 use mathlib.Core.List.{List}
@@ -14,7 +15,6 @@ use Rattle.lists.specs.Find.{any}
 use Rattle.lists.proofs.Find.{any_true, any_none, any_false, any_some, told}
 use Rattle.sparse.specs.Matrix.{Matrix, row, value_in}
 use Rattle.sparse.specs.Tests.{matrix_test, well_formed}
-use Rattle.sparse.specs.declared.Tested.TheVariants.{Good}
 use Rattle.sparse.proofs.Cuts.{Laid, laid, few_rows}
 use Rattle.sparse.proofs.Firsts.{lowest_good}
 use Rattle.meaning.proofs.Parts.{length_part}
@@ -72,7 +72,7 @@ module _ (n : ℕ) (cols vals : List ℕ) (i : ℕ) (c : Climbs n cols) (one : v
       (told (any (length cols) (other cols vals i)))
 
 -- 1 to 6 find nothing
-pub formed_readable : (limit p : ℕ) (m : Matrix) → well_formed limit p m ≡ Good → Readable m
+pub formed_readable : (limit p : ℕ) (m : Matrix) → well_formed limit p m ≡ Ok tt → Readable m
 unfolding well_formed matrix_test
 formed_readable limit p m e =
     let s = lowest_good _ _ (lowest_good _ _ e).1 in

@@ -1,5 +1,6 @@
 -- The last row of a good matrix: the entries from where it starts on.
 -- Assumes nothing.
+use Rattle.std.specs.Prelude.{Ok}
 use mathlib.Core.Path.{◌≡◌, sym, ap, ap₂, ◌∙◌}
 use mathlib.Core.List.{List, [], map}
 use Prim.Native.Nat.{ℕ, ◌+◌, ◌-◌, ◌≤◌, ◌<◌}
@@ -12,7 +13,6 @@ use Rattle.sparse.specs.Lent.{LentVector, vector_room_test}
 use Rattle.sparse.specs.Matrix.{Matrix, part, row}
 use Rattle.sparse.specs.Put.{cols_of, values_of}
 use Rattle.sparse.specs.Rows.{Entry, entries, rows_of, row_at}
-use Rattle.sparse.specs.declared.Tested.TheVariants.{Good}
 use Rattle.sparse.proofs.Cuts.{Laid}
 use Rattle.sparse.proofs.Firsts.{refuse_good, neither}
 use Rattle.meaning.proofs.Parts.{length_part}
@@ -54,6 +54,6 @@ module _ (m : Matrix) (l : Laid m) (h : 0 < m.nrows) where
       ∙ ap (λ (vs : List ℕ). take (length m.values - start) (drop start vs)) (entry_values m.col_idcs m.values)
 
 -- 14 finds nothing: the entries fit
-pub room_fits : (n : ℕ) (l : LentVector) → vector_room_test n l ≡ Good → (n ≤ length l.idcs) × (n ≤ length l.values)
+pub room_fits : (n : ℕ) (l : LentVector) → vector_room_test n l ≡ Ok tt → (n ≤ length l.idcs) × (n ≤ length l.values)
 unfolding vector_room_test
 room_fits n l e = let h = neither (ltb (length l.idcs) n) (ltb (length l.values) n) (refuse_good _ _ e) in (ltb-false _ _ h.0, ltb-false _ _ h.1)

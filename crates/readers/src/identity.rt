@@ -5,11 +5,10 @@ ghost use Rattle.sparse.specs.Matrix.{matrix, value_in, value_at};
 ghost use Rattle.readers.specs.Asks.{Climbing, SquareRow, Square};
 ghost use Rattle.readers.specs.Readers.{is_one};
 
-use crate::Verdict;
 use sparse::inside::well_formed;
-use sparse::{MAX_ENTRIES, Tested};
+use sparse::{MAX_ENTRIES, Refusal};
 
-// Yes for 1 on the diagonal and 0 elsewhere, No otherwise; or the lowest of 1 to 6 that applies.
+// Whether it is 1 on the diagonal and 0 elsewhere; or the lowest of 1 to 6 that applies.
 pub fn is_one(
     p: u32,
     nrows: u32,
@@ -17,20 +16,14 @@ pub fn is_one(
     row_ptrs: &[usize],
     col_idcs: &[u32],
     values: &[u32],
-) -> Verdict
+) -> Result<bool, Refusal>
     ensures { result ≡ is_one p (matrix nrows ncols row_ptrs.now col_idcs.now values.now) }
 {
-    let found = well_formed(MAX_ENTRIES, p, nrows, ncols, row_ptrs, col_idcs, values);
-    if let Tested::Refused(why) = found {
-        return Verdict::Refused(why);
-    }
+    well_formed(MAX_ENTRIES, p, nrows, ncols, row_ptrs, col_idcs, values)?;
     if nrows != ncols {
-        return Verdict::No;
+        return Ok(false);
     }
-    if some_row_off(nrows, ncols, row_ptrs, col_idcs, values) {
-        return Verdict::No;
-    }
-    Verdict::Yes
+    Ok(!some_row_off(nrows, ncols, row_ptrs, col_idcs, values))
 }
 
 // Whether some row differs from the identity's.
@@ -44,14 +37,12 @@ fn some_row_off(
     requires { Square (matrix nrows ncols row_ptrs.now col_idcs.now values.now) }
     ensures { result ≡ any nrows (λ i. any ncols (λ j. not (eqb (value_at (matrix nrows ncols row_ptrs.now col_idcs.now values.now) i j) (cond (eqb i j) 1 0)))) }
 {
-    let mut row = 0;
-    while row < nrows {
+    for row in 0..nrows {
         let start = row_ptrs[row as usize];
         let stop = row_ptrs[row as usize + 1];
         if row_off(ncols, &col_idcs[start..stop], &values[start..stop], row) {
             return true;
         }
-        row += 1;
     }
     false
 }
@@ -72,12 +63,10 @@ fn value_in(ncols: u32, cols: &[u32], vals: &[u32], col: u32) -> u32
     requires { Climbing ncols cols.now vals.now }
     ensures { result ≡ value_in cols.now vals.now col }
 {
-    let mut k = 0;
-    while k < cols.len() {
-        if cols[k] == col {
-            return vals[k];
+    for (&here, &value) in cols.iter().zip(vals) {
+        if here == col {
+            return value;
         }
-        k += 1;
     }
     0
 }
@@ -87,15 +76,8 @@ fn holds_other(cols: &[u32], vals: &[u32], col: u32) -> bool
     requires { length cols.now ≡ length vals.now }
     ensures { result ≡ any (length cols.now) (λ k. not (eqb (get_or cols.now k 0) col) && not (eqb (get_or vals.now k 0) 0)) }
 {
-    let mut k = 0;
-    while k < cols.len() {
-        let here = cols[k];
-        let value = vals[k];
-        k += 1;
-        if here == col {
-            continue;
-        }
-        if value != 0 {
+    for (&here, &value) in cols.iter().zip(vals) {
+        if here != col && value != 0 {
             return true;
         }
     }

@@ -7,20 +7,10 @@ mod rows;
 
 pub use identity::is_one;
 pub use rows::last_row;
-use sparse::Refusal;
 
-// What `last_row` answers: nothing where there are no rows, else the row's number and its entries.
+// The last row's number, and how many entries it has.
 #[derive(Clone, Copy)]
-pub enum LastRow {
-    Nothing,
-    Row(u32, usize),
-    Refused(Refusal),
-}
-
-// A yes or no, or why there is none.
-#[derive(Clone, Copy)]
-pub enum Verdict {
-    Yes,
-    No,
-    Refused(Refusal),
+pub struct LastRow {
+    pub row: u32,
+    pub entries: usize,
 }

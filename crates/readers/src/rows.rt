@@ -7,7 +7,7 @@ ghost use Rattle.readers.specs.Readers.{last_row};
 use crate::LastRow;
 use crate::inside::vector_room_test;
 use sparse::inside::{copy, well_formed};
-use sparse::{MAX_ENTRIES, Tested};
+use sparse::{MAX_ENTRIES, Refusal};
 
 // The last row's number and entries, the row copied; nothing where there are no rows.
 pub fn last_row(
@@ -19,23 +19,20 @@ pub fn last_row(
     values: &[u32],
     out_idcs: &mut [u32],
     out_vals: &mut [u32],
-) -> LastRow
+) -> Result<Option<LastRow>, Refusal>
     ensures { outcome result (lent_vector out_idcs.new out_vals.new) ≡ last_row p (matrix nrows ncols row_ptrs.now col_idcs.now values.now) (lent_vector out_idcs.old out_vals.old) }
 {
-    let found = well_formed(MAX_ENTRIES, p, nrows, ncols, row_ptrs, col_idcs, values);
-    if let Tested::Refused(why) = found {
-        return LastRow::Refused(why);
-    }
+    well_formed(MAX_ENTRIES, p, nrows, ncols, row_ptrs, col_idcs, values)?;
     if nrows == 0 {
-        return LastRow::Nothing;
+        return Ok(None);
     }
     let row = nrows - 1;
     let start = row_ptrs[row as usize];
-    let room = vector_room_test(values.len() - start, out_idcs, out_vals);
-    if let Tested::Refused(why) = room {
-        return LastRow::Refused(why);
-    }
+    vector_room_test(values.len() - start, out_idcs, out_vals)?;
     copy(&col_idcs[start..], out_idcs);
     copy(&values[start..], out_vals);
-    LastRow::Row(row, values.len() - start)
+    Ok(Some(LastRow {
+        row,
+        entries: values.len() - start,
+    }))
 }

@@ -6,8 +6,7 @@ use mathlib.Core.List.{List}
 use denote.Ref.{Bor}
 use Rattle.lists.proofs.Only.{only}
 use Rattle.sparse.specs.Lent.{Outcome}
-use Rattle.reading.specs.Read.{step_at, reader_at, next_of}
-use Rattle.reading.specs.declared.Read.{Read}
+use Rattle.reading.specs.Read.{Read, step_at, reader_at, next_of}
 use Rattle.reading.specs.declared.Reader.{Reader}
 use Rattle.reading.specs.declared.Step.{Step}
 

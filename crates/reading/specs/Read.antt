@@ -1,13 +1,11 @@
 -- What a reader over one lent row yields.
-use Rattle.std.specs.Prelude.{ℕ, ◌+◌, cond, not, List, [], ◌∷◌, eqb, ltb, length, get_or}
+use Rattle.std.specs.Prelude.{ℕ, ◌+◌, cond, not, List, [], ◌∷◌, eqb, ltb, length, get_or, Err, Ok, None, Some, Option, Result}
 use Rattle.std.specs.Borrow.{Bor}
 use Rattle.sparse.specs.Lent.{Outcome, outcome}
-use Rattle.sparse.specs.Refusals.{refuse, lowest}
+use Rattle.sparse.specs.Refusals.{refuse, lowest, Tested}
 use Rattle.sparse.specs.declared.Refusal.TheVariants.{Size, Shape}
-use Rattle.sparse.specs.declared.Tested.{Tested}
-use Rattle.sparse.specs.declared.Tested.TheVariants.{Good, Refused}
-use Rattle.reading.specs.declared.Read.{Read}
-use Rattle.reading.specs.declared.Read.TheVariants.{Entry, Done, Refused as Unread}
+use Rattle.sparse.specs.declared.Refusal.{Refusal}
+use Rattle.reading.specs.declared.Entry.{Entry}
 use Rattle.reading.specs.declared.Reader.{Reader}
 use Rattle.reading.specs.declared.Step.{Step}
 
@@ -15,18 +13,25 @@ use Rattle.reading.specs.declared.Step.{Step}
 unfoldable pub lengths_test : List ℕ → List ℕ → Tested
 lengths_test cols vals = lowest (refuse (ltb 1024 (length vals)) Size ∷ refuse (not (eqb (length cols) (length vals))) Shape ∷ [])
 
+-- what was read: an entry, nothing past the last one, or a refusal
+abbrev pub Read : Type 0
+Read = Result (Option Entry) Refusal
+
+abbrev pub entry : ℕ → ℕ → Entry
+entry col value = record { col = col; value = value }
+
 -- what was read, and the place to read next
 abbrev pub step : Read → ℕ → Step
 step r i = record { read = r; place = i }
 
 -- the entry at place i, after which the next one is read; past the last entry the row is done
 unfoldable pub entry_at : List ℕ → List ℕ → ℕ → Step
-entry_at cols vals i = cond (ltb i (length vals)) (step (Entry (get_or cols i 0) (get_or vals i 0)) (i + 1)) (step Done i)
+entry_at cols vals i = cond (ltb i (length vals)) (step (Ok (Some (entry (get_or cols i 0) (get_or vals i 0)))) (i + 1)) (step (Ok None) i)
 
 -- a refusal leaves the place as it is
 unfoldable pub unless_refused : Tested → ℕ → Step → Step
-unless_refused (Refused r) i s = step (Unread r) i
-unless_refused Good i s = s
+unless_refused (Err r) i s = step (Err r) i
+unless_refused (Ok _) i s = s
 
 -- `peek` and `entry_at`: what stands at place i, or the lower of 2 and 3 that applies
 unfoldable pub step_at : List ℕ → List ℕ → ℕ → Step

@@ -15,18 +15,17 @@ pub struct Reader<'a> {
     pub place: usize,
 }
 
-// What stands at a place: an entry's column and value, or nothing past the last entry.
+// An entry's column and value.
 #[derive(Clone, Copy)]
-pub enum Read {
-    Entry(u32, u32),
-    Done,
-    Refused(Refusal),
+pub struct Entry {
+    pub col: u32,
+    pub value: u32,
 }
 
-// What was read, and the place to read next.
+// What was read, an entry or nothing past the last one, and the place to read next.
 #[derive(Clone, Copy)]
 pub struct Step {
-    pub read: Read,
+    pub read: Result<Option<Entry>, Refusal>,
     pub place: usize,
 }
 
@@ -38,24 +37,27 @@ fn step_at<'a>(cols: &'a [u32], vals: &'a [u32], place: usize) -> Step
     let entries = vals.len();
     if entries > MAX_SIDE as usize {
         return Step {
-            read: Read::Refused(Refusal::Size),
+            read: Err(Refusal::Size),
             place,
         };
     }
     if cols.len() != entries {
         return Step {
-            read: Read::Refused(Refusal::Shape),
+            read: Err(Refusal::Shape),
             place,
         };
     }
     if place >= entries {
         return Step {
-            read: Read::Done,
+            read: Ok(None),
             place,
         };
     }
     Step {
-        read: Read::Entry(cols[place], vals[place]),
+        read: Ok(Some(Entry {
+            col: cols[place],
+            value: vals[place],
+        })),
         place: place + 1,
     }
 }
@@ -67,8 +69,8 @@ pub fn reader_at<'a>(cols: &'a [u32], vals: &'a [u32], place: usize) -> Reader<'
     Reader { cols, vals, place }
 }
 
-// The entry at the reader's place, which moves on to the next one.
-pub fn next<'s, 'a>(r: &'s mut Reader<'a>) -> Read
+// The entry at the reader's place, None past the last one; the place moves on to the next.
+pub fn next<'s, 'a>(r: &'s mut Reader<'a>) -> Result<Option<Entry>, Refusal>
     ensures { outcome result r.new ≡ next_of r.old }
 {
     let step = step_at(r.cols, r.vals, r.place);

@@ -1,5 +1,6 @@
 -- Back substitution of rows in echelon form: reduced rows, one for each pivot from the highest down, the only ones of that span.
 -- Assumes nothing.
+use Rattle.std.specs.Prelude.{Some}
 use mathlib.Core.Path.{◌≡◌}
 use mathlib.Core.Bool.{true}
 use mathlib.Core.List.{List}
@@ -9,7 +10,6 @@ use lib.ListN.{length}
 use Rattle.lists.specs.Sum.{Σ}
 use Rattle.sparse.specs.Rows.{Entry}
 use Rattle.walk.specs.Step.{Upper}
-use Rattle.walk.specs.declared.Answer.TheVariants.{Accepted}
 use Rattle.steps.specs.History.{answered}
 use Rattle.steps.specs.Rows.{value_of, CleanRow}
 use Rattle.steps.specs.Setting.{Inverts, Echelon}
@@ -29,7 +29,7 @@ module _ {p n k : ℕ} {u : Upper} {h : ℕ → ℕ} (inverts : Inverts p) (eche
 
   -- while the second U v is built: row e is accepted at the e-th pivot column from the highest, and has its place
   module _ {e : ℕ} {v : Upper} (low : e < k) (built : Built p n rows e v) where
-    pub back_accepted : (answered true p n e v (rows e)).answer ≡ Accepted (column_down u.pivots n e)
+    pub back_accepted : (answered true p n e v (rows e)).answer ≡ Some (column_down u.pivots n e)
     back_accepted = built_accepted inverts (down_falling echelon stored means inverts clean) low built
 
     pub back_few : length (answered true p n e v (rows e)).u ≤ n - k + 1

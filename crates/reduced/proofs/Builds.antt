@@ -1,5 +1,6 @@
 -- Back substitution: rows taken by falling head are each accepted at their own head, and U's rows are reduced and keep the span.
 -- Assumes nothing.
+use Rattle.std.specs.Prelude.{None, Some}
 use mathlib.Core.Path.{◌≡◌, ap, ◌∙◌}
 use mathlib.Core.Bool.{true}
 use mathlib.Core.List.{List}
@@ -11,9 +12,7 @@ use Rattle.lists.proofs.Tables.{length-table, get_or-table}
 use Rattle.linear.proofs.Span.{span_trans}
 use Rattle.sparse.specs.Pivots.{mark}
 use Rattle.sparse.specs.Rows.{Entry}
-use Rattle.walk.specs.Step.{Upper, pivot_at}
-use Rattle.walk.specs.declared.Answer.{Answer}
-use Rattle.walk.specs.declared.Answer.TheVariants.{Accepted, None}
+use Rattle.walk.specs.Step.{Upper, pivot_at, Answer}
 use Rattle.steps.specs.History.{answered, NoPivots, Next, stays, grows, placed, extended}
 use Rattle.steps.specs.Setting.{Inverts}
 use Rattle.steps.proofs.Histories.{extended_next}
@@ -34,7 +33,7 @@ finished_long p n rows (suc k) = go (answered true p n k (finished p n rows k) (
   where
     go : (a : Answer) → length (finished p n rows k).pivots ≡ n → length (placed k (finished p n rows k) (answered true p n k (finished p n rows k) (rows k)).u a).pivots ≡ n
     go None e = e
-    go (Accepted g) e = length-set (finished p n rows k).pivots g k ∙ e
+    go (Some g) e = length-set (finished p n rows k).pivots g k ∙ e
 
 -- of no rows
 finished_empty : {p n : ℕ} {rows : ℕ → List Entry} {h : ℕ → ℕ} {u : Upper} → NoPivots n u → Finished p n 0 rows h u
@@ -49,9 +48,9 @@ finished_empty f = record {
 }
 
 module _ {p n m : ℕ} {rows : ℕ → List Entry} {h : ℕ → ℕ} (inverts : Inverts p) (falling : Falling p n m rows h) where
-  next_finished : (k : ℕ) → k < m → (u : Upper) → Finished p n k rows h u → {a : Answer} {v : Upper} → Next true p n k u (rows k) a v → (a ≡ Accepted (h k)) × Finished p n (suc k) rows h v
+  next_finished : (k : ℕ) → k < m → (u : Upper) → Finished p n k rows h u → {a : Answer} {v : Upper} → Next true p n k u (rows k) a v → (a ≡ Some (h k)) × Finished p n (suc k) rows h v
   next_finished k low u done (stays e) = absurd (not_none inverts falling k low u done e)
-  next_finished k low u done (grows g v e grown) = (ap Accepted (at_own inverts falling k low u done e grown), finished_more inverts falling k low u done e grown)
+  next_finished k low u done (grows g v e grown) = (ap Some (at_own inverts falling k low u done e grown), finished_more inverts falling k low u done e grown)
 
   -- U after the first k rows: reduced, with their heads, and their span
   pub built_finished : {k : ℕ} {u : Upper} → k ≤ m → Built p n rows k u → Finished p n k rows h u
@@ -59,5 +58,5 @@ module _ {p n m : ℕ} {rows : ℕ → List Entry} {h : ℕ → ℕ} (inverts : 
   built_finished low (more k u past a v next) = (next_finished k low u (built_finished (omega arith) past) next).1
 
   -- the next row is accepted at its own head
-  pub built_accepted : {k : ℕ} {u : Upper} → k < m → Built p n rows k u → (answered true p n k u (rows k)).answer ≡ Accepted (h k)
+  pub built_accepted : {k : ℕ} {u : Upper} → k < m → Built p n rows k u → (answered true p n k u (rows k)).answer ≡ Some (h k)
   built_accepted {k} {u} low past = (next_finished k low u (built_finished (omega arith) past) (extended_next true p n k u (rows k))).0

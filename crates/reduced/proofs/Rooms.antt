@@ -9,8 +9,7 @@ use lib.ListN.{length}
 use Rattle.lists.specs.Sum.{Σ}
 use Rattle.lists.proofs.Pigeons.{Distinct}
 use Rattle.sparse.specs.Rows.{Entry}
-use Rattle.walk.specs.Step.{Upper}
-use Rattle.walk.specs.declared.Answer.{Answer}
+use Rattle.walk.specs.Step.{Upper, Answer}
 use Rattle.steps.specs.History.{answered, Next, stays, grows}
 use Rattle.steps.specs.Rows.{value_of, CleanRow}
 use Rattle.steps.specs.Setting.{Inverts}

@@ -1,5 +1,6 @@
 -- A row whose head stands before all heads of reduced rows, taken by the second walk: accepted there, and the rows are reduced again.
 -- Assumes nothing.
+use Rattle.std.specs.Prelude.{None, Some}
 use mathlib.Core.Path.{◌≡◌, refl, sym, ap, subst, ◌∙◌}
 use mathlib.Core.Logic.{◌↔◌}
 use mathlib.Core.Bool.{true, cond}
@@ -14,7 +15,6 @@ use Rattle.linear.proofs.Heads.{Heads}
 use Rattle.linear.proofs.Span.{Span, combination_span, span_row, span_trans, span_more}
 use Rattle.sparse.specs.Rows.{Entry}
 use Rattle.walk.specs.Step.{Upper, Taken, step}
-use Rattle.walk.specs.declared.Answer.TheVariants.{Accepted, None}
 use Rattle.steps.specs.History.{answered}
 use Rattle.steps.specs.Rows.{value_of, CleanRow}
 use Rattle.steps.specs.Setting.{Inverts, Echelon, with_last, Grown}
@@ -73,11 +73,11 @@ module _ {p n m : ℕ} {rows : ℕ → List Entry} {h : ℕ → ℕ} (inverts : 
       let w = head_in_lem echelon.heads (combination_span ((answered_none true p n k u h inverts echelon (rows k) row).0 e)) in
       omega (arith, w.2, falling.falls w.0 k w.1 low)
 
-  module _ {g : ℕ} {v : Upper} (e : (answered true p n k u (rows k)).answer ≡ Accepted g) (grown : Grown n k g u (answered true p n k u (rows k)).u v) where
+  module _ {g : ℕ} {v : Upper} (e : (answered true p n k u (rows k)).answer ≡ Some g) (grown : Grown n k g u (answered true p n k u (rows k)).u v) where
     walked : answered true p n k u (rows k) ≡ step true p n k u (rows k)
     walked = answered_step true p n k u (rows k) g e
 
-    found : (step true p n k u (rows k)).answer ≡ Accepted g
+    found : (step true p n k u (rows k)).answer ≡ Some g
     found = ap (λ (t : Taken). t.answer) (sym walked) ∙ e
 
     new : Grown n k g u (step true p n k u (rows k)).u v

@@ -3,8 +3,7 @@ use Rattle.std.specs.Prelude.{◌≡◌, ℕ, zero, suc, ◌<◌, true, List}
 use Rattle.lists.specs.Table.{table}
 use Rattle.sparse.specs.Pivots.{mark}
 use Rattle.sparse.specs.Rows.{Entry}
-use Rattle.walk.specs.Step.{Upper}
-use Rattle.walk.specs.declared.Answer.{Answer}
+use Rattle.walk.specs.Step.{Upper, Answer}
 use Rattle.steps.specs.History.{answered, NoPivots, Next, extended}
 use Rattle.steps.specs.Rows.{value_of, CleanRow}
 use Rattle.steps.specs.Setting.{Tabled}

@@ -1,5 +1,6 @@
 -- Memory that isn't too short, list by list.
 -- Assumes nothing.
+use Rattle.std.specs.Prelude.{Err, Ok}
 use mathlib.Core.Path.{◌≡◌, sym, ◌∙◌}
 use mathlib.Core.Bool.{Bool, true, false, cond}
 use mathlib.Core.List.{List}
@@ -13,7 +14,6 @@ use borrow.Author.Tests.{ltb-false, lt-ltb, le-ltb}
 use Rattle.sparse.specs.Refusals.{refuse}
 use Rattle.sparse.specs.declared.Refusal.{Refusal}
 use Rattle.sparse.specs.declared.Refusal.TheVariants.{Mismatch, Room}
-use Rattle.sparse.specs.declared.Tested.TheVariants.{Good, Refused}
 use Rattle.sparse.proofs.Firsts.{neither, refuse_good, lowest_good}
 use Rattle.state.specs.Memory.{at_most}
 use Rattle.state.specs.Memory as M
@@ -22,11 +22,11 @@ use Rattle.plenty.specs.Plenty.{Plenty}
 use Rattle.report.specs.Work.{Work, short, work_test}
 
 -- a test by a bool that code found
-pub refused_so : {b r : Bool} (why : Refusal) → r ≡ b → r ≡ true → Refused why ≡ refuse b why
+pub refused_so : {b r : Bool} (why : Refusal) → r ≡ b → r ≡ true → Err why ≡ refuse b why
 unfolding refuse
 refused_so why e t = rw (sym e ∙ t)
 
-pub good_so : {b r : Bool} (why : Refusal) → r ≡ b → r ≡ false → Good ≡ refuse b why
+pub good_so : {b r : Bool} (why : Refusal) → r ≡ b → r ≡ false → Ok tt ≡ refuse b why
 unfolding refuse
 good_so why e t = rw (sym e ∙ t)
 
@@ -50,7 +50,7 @@ long : (n : ℕ) (xs : List ℕ) → short n xs ≡ false → n ≤ length xs
 unfolding short
 long n xs e = ltb-false (length xs) n e
 
-pub places : (w : Work) → work_test w ≡ Good → Places w
+pub places : (w : Work) → work_test w ≡ Ok tt → Places w
 unfolding work_test
 places w e =
     let first = lowest_good _ _ e in

@@ -3,9 +3,9 @@
 use mathlib.Core.Path.{◌≡◌}
 use mathlib.Core.List.{List}
 use Prim.Native.Nat.{ℕ}
+use Rattle.text.specs.Mma.{Printed}
 use Rattle.lists.proofs.Only.{only}
 use Rattle.sparse.specs.Lent.{Outcome}
-use Rattle.text.specs.declared.Printed.{Printed}
 use Rattle.report.specs.Report.{report}
 use Rattle.report.specs.Work.{Work}
 

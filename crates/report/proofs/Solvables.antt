@@ -1,12 +1,12 @@
 -- What a text says, loaded into memory that isn't too short, can be solved.
 -- Assumes nothing.
+use Rattle.std.specs.Prelude.{Ok}
 use mathlib.Core.Path.{◌≡◌, refl}
 use mathlib.Core.List.{List}
 use Prim.Native.Nat.{◌-◌, ◌≤◌}
 use native.Mathlib.Omega.{arith}
 use lib.ListN.{length, length-map}
 use Rattle.lists.proofs.Ontos.{length-onto}
-use Rattle.sparse.specs.declared.Tested.TheVariants.{Good}
 use Rattle.state.specs.Memory.{Memory}
 use Rattle.triplets.specs.Triplets.{Triplet}
 use Rattle.market.specs.Asks.{rows_in, cols_in, values_in}
@@ -22,7 +22,7 @@ use Rattle.report.specs.Report.{waiting, loaded}
 use Rattle.report.specs.Work.{Work, work_test}
 use Rattle.report.proofs.Lengths.{Places, places, plenty_within}
 
-module _ (m : Market) (w : Work) (good : entries_test m.nrows m.ncols m.entries ≡ Good) (room : work_test w ≡ Good) where
+module _ (m : Market) (w : Work) (good : entries_test m.nrows m.ncols m.entries ≡ Ok tt) (room : work_test w ≡ Ok tt) where
   abbrev ts : List Triplet
   ts = m.entries
 

@@ -1,5 +1,6 @@
 -- Loading, solving and writing, one after the other: what each asks for, and what is told.
 -- Assumes nothing.
+use Rattle.std.specs.Prelude.{Ok}
 use mathlib.Core.Path.{◌≡◌, sym, ap, ap₂, subst, ◌∙◌}
 use mathlib.Core.List.{List}
 use Prim.Native.Nat.{ℕ, ◌+◌, ◌≤◌}
@@ -15,7 +16,6 @@ use Rattle.state.specs.Memory.{Memory, memory}
 use Rattle.state.specs.declared.Mode.TheVariants.{None}
 use Rattle.triplets.specs.Triplets.{Triplet, start_of}
 use Rattle.text.specs.Writers.{Wrote}
-use Rattle.text.specs.declared.Printed.TheVariants.{Bytes}
 use Rattle.text.proofs.Puts.{wrote_onto}
 use Rattle.running.specs.Rows.{Night, night}
 use Rattle.market.specs.Asks.{rows_in, cols_in, values_in}
@@ -125,10 +125,10 @@ module _ {text : List ℕ} {size : Numbers} {w : Work} (t : Tellable text size w
       pub tell_rows : Rows s.counts.rank s.counts.u_fill v.memory.u_cols v.memory.u_vals v.memory.u_ptrs
       tell_rows = settled_rows settled tell_small.wide
 
-      pub tell_done : {bytes : ℕ} {out : List ℕ} → Wrote (report_text s v.memory) 0 w.out bytes out → outcome (Bytes bytes) (work l v out) ≡ reported m w
+      pub tell_done : {bytes : ℕ} {out : List ℕ} → Wrote (report_text s v.memory) 0 w.out bytes out → outcome (Ok bytes) (work l v out) ≡ reported m w
       unfolding reported printed loaded
       tell_done {bytes} {out} wrote =
           let many : bytes ≡ length (report_text s v.memory) = omega (arith, wrote.next) in
           let fits : length (report_text s v.memory) ≤ length w.out = omega (arith, settled_fits s settled tell_small.wide, room.out) in
-          (λ i. outcome (Bytes (many i)) (work (done.matrix i) v (wrote_onto wrote fits i)))
+          (λ i. outcome (Ok (many i)) (work (done.matrix i) v (wrote_onto wrote fits i)))
           ∙ ap (printed (loaded m w)) solved_is

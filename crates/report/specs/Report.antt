@@ -1,12 +1,11 @@
 -- The library call of the program: text in, rank, determinant and U out.
-use Rattle.std.specs.Prelude.{ℕ, List, [], ◌∷◌, map, length}
+use Rattle.text.specs.Mma.{Printed}
+use Rattle.std.specs.Prelude.{ℕ, List, [], ◌∷◌, map, length, Err, Ok}
 use Rattle.lists.specs.Onto.{◌onto◌}
 use Rattle.sparse.specs.Lent.{Outcome, outcome, unless}
 use Rattle.sparse.specs.Refusals.{lowest}
 use Rattle.triplets.specs.Triplets.{written}
 use Rattle.state.specs.Memory.{Memory, memory}
-use Rattle.text.specs.declared.Printed.{Printed}
-use Rattle.text.specs.declared.Printed.TheVariants.{Bytes, Refused}
 use Rattle.running.specs.Rows.{Night, night}
 use Rattle.market.specs.Asks.{from_zero, rows_in, cols_in, values_in}
 use Rattle.market.specs.Parse.{Read, nothing, got, Market, market}
@@ -27,7 +26,7 @@ loaded m w = work (written m.nrows (map from_zero m.entries) w.lent) (night (wai
 
 -- the output, and all memory after it
 unfoldable pub printed : Work → Outcome Solved Night → Outcome Printed Work
-printed w o = outcome (Bytes (length (report_text o.answer o.memory.memory))) (work w.lent o.memory (report_text o.answer o.memory.memory onto w.out))
+printed w o = outcome (Ok (length (report_text o.answer o.memory.memory))) (work w.lent o.memory (report_text o.answer o.memory.memory onto w.out))
 
 -- loaded, solved and written
 unfoldable pub reported : Market → Work → Outcome Printed Work
@@ -40,4 +39,4 @@ said (got m later) = m
 
 -- refused by the text or by the memory, else reported
 unfoldable pub report : List ℕ → Work → Outcome Printed Work
-report text w = unless Refused (lowest (market_test text ∷ work_test w ∷ [])) w (reported (said (market text)) w)
+report text w = unless Err (lowest (market_test text ∷ work_test w ∷ [])) w (reported (said (market text)) w)

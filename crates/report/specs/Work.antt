@@ -1,9 +1,8 @@
 -- The memory that a report works in, and when it is too short.
 use Rattle.std.specs.Prelude.{ℕ, Bool, ◌||◌, List, [], ◌∷◌, ltb, length}
 use Rattle.sparse.specs.Lent.{Lent}
-use Rattle.sparse.specs.Refusals.{refuse, lowest}
+use Rattle.sparse.specs.Refusals.{refuse, lowest, Tested}
 use Rattle.sparse.specs.declared.Refusal.TheVariants.{Mismatch, Room}
-use Rattle.sparse.specs.declared.Tested.{Tested}
 use Rattle.running.specs.Rows.{Night}
 
 -- lent for the matrix, for its reduction, and for the output

@@ -10,13 +10,12 @@ ghost use Rattle.report.specs.Work.{work};
 
 use crate::rooms::work_test;
 use market::MODULUS;
-use market::lines::{Line, Numbers, size_line};
+use market::lines::{Numbers, size_line};
 use market::tests::market_test;
 use reporting::lines::put_report;
 use reporting::load::load;
 use solving::solve::solve;
-use sparse::{Refusal, Tested};
-use text::Printed;
+use sparse::Refusal;
 
 // Loads the matrix, solves it and writes the output.
 fn told(
@@ -35,7 +34,7 @@ fn told(
     l_ptrs: &mut [usize],
     pivots: &mut [u32],
     out: &mut [u8],
-) -> Printed
+) -> Result<usize, Refusal>
     requires { Tellable text.now size (work (lent row_ptrs.old col_idcs.old values.old) (night (memory u_cols.old u_vals.old u_ptrs.old l_cols.old l_vals.old l_ptrs.old pivots.old) answers.old dense.old) out.old) }
     ensures { outcome result (work (lent row_ptrs.new col_idcs.new values.new) (night (memory u_cols.new u_vals.new u_ptrs.new l_cols.new l_vals.new l_ptrs.new pivots.new) answers.new dense.new) out.new) ≡ Report.reported (said_by text.now size) (work (lent row_ptrs.old col_idcs.old values.old) (night (memory u_cols.old u_vals.old u_ptrs.old l_cols.old l_vals.old l_ptrs.old pivots.old) answers.old dense.old) out.old) }
 {
@@ -61,7 +60,7 @@ fn told(
         l_ptrs,
         pivots,
     );
-    Printed::Bytes(put_report(solved, u_cols, u_vals, u_ptrs, out))
+    Ok(put_report(solved, u_cols, u_vals, u_ptrs, out))
 }
 
 // Rank, determinant and U of the matrix that a text says, modulo 2^31 - 1; or the number that the text
@@ -81,23 +80,15 @@ pub fn report(
     l_ptrs: &mut [usize],
     pivots: &mut [u32],
     out: &mut [u8],
-) -> Printed
+) -> Result<usize, Refusal>
     ensures { outcome result (work (lent row_ptrs.new col_idcs.new values.new) (night (memory u_cols.new u_vals.new u_ptrs.new l_cols.new l_vals.new l_ptrs.new pivots.new) answers.new dense.new) out.new) ≡ Report.report text.now (work (lent row_ptrs.old col_idcs.old values.old) (night (memory u_cols.old u_vals.old u_ptrs.old l_cols.old l_vals.old l_ptrs.old pivots.old) answers.old dense.old) out.old) }
 {
-    let tested = market_test(text);
-    if let Tested::Refused(why) = tested {
-        return Printed::Refused(why);
-    }
-    let room = work_test(
+    market_test(text)?;
+    work_test(
         row_ptrs, col_idcs, values, dense, answers, u_cols, u_vals, u_ptrs, l_cols, l_vals, l_ptrs,
         pivots, out,
-    );
-    if let Tested::Refused(why) = room {
-        return Printed::Refused(why);
-    }
-    let Line::Three(size) = size_line(text) else {
-        return Printed::Refused(Refusal::Text);
-    };
+    )?;
+    let size = size_line(text).ok_or(Refusal::Text)?;
     told(
         text, size, row_ptrs, col_idcs, values, dense, answers, u_cols, u_vals, u_ptrs, l_cols,
         l_vals, l_ptrs, pivots, out,

@@ -5,7 +5,7 @@ ghost use Rattle.state.specs.Memory.{memory};
 ghost use Rattle.running.specs.Rows.{night};
 ghost use Rattle.report.specs.Work.{short, work, work_test};
 
-use sparse::{Refusal, Tested};
+use sparse::Refusal;
 
 // The most rows, and the most columns.
 const SIDE: usize = 64;
@@ -65,16 +65,16 @@ pub fn work_test(
     l_ptrs: &[usize],
     pivots: &[u32],
     out: &[u8],
-) -> Tested
+) -> Result<(), Refusal>
     ensures { result ≡ work_test (work (lent row_ptrs.now col_idcs.now values.now) (night (memory u_cols.now u_vals.now u_ptrs.now l_cols.now l_vals.now l_ptrs.now pivots.now) answers.now dense.now) out.now) }
 {
     if is_narrow(dense, answers, pivots) {
-        return Tested::Refused(Refusal::Mismatch);
+        return Err(Refusal::Mismatch);
     }
     if is_short(
         row_ptrs, col_idcs, values, u_cols, u_vals, u_ptrs, l_cols, l_vals, l_ptrs, out,
     ) {
-        return Tested::Refused(Refusal::Room);
+        return Err(Refusal::Room);
     }
-    Tested::Good
+    Ok(())
 }

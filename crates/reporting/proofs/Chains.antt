@@ -1,11 +1,13 @@
 -- What the writers of the lines ask of one another, and how far each gets.
 -- Assumes nothing.
+use Rattle.std.specs.Prelude.{None, Some}
 use mathlib.Core.Path.{◌≡◌, sym, ap, ◌∙◌}
 use mathlib.Core.List.{List, [], ◌∷◌, ◌++◌, flatten, append_assoc}
 use Prim.Native.Nat.{ℕ, ◌+◌, ◌≤◌}
 use native.Mathlib.Omega.{arith}
 use lib.ListN.{length, take, length-append}
 use lib.Seq.{length-take-le}
+use Rattle.solving.specs.Solve.{Worth}
 use Rattle.sparse.specs.Matrix.{matrix}
 use Rattle.sparse.specs.Rows.{entries}
 use Rattle.text.specs.Asks.{RowsAt}
@@ -15,15 +17,13 @@ use Rattle.text.specs.Writers.{Wrote, row_pieces, links, ending}
 use Rattle.text.proofs.Digits.{decimal_most}
 use Rattle.text.proofs.Pieces.{rows_far}
 use Rattle.text.proofs.Texts.{matrix_text_lem}
-use Rattle.solving.specs.declared.Worth.{Worth}
-use Rattle.solving.specs.declared.Worth.TheVariants.{Number, Unasked}
 use Rattle.reporting.specs.Asks.{RowsFrom}
 use Rattle.reporting.specs.Text.{worth_text, heading}
 
 pub worth_most : (w : Worth) → length (worth_text w) ≤ 20
 unfolding worth_text
-worth_most (Number v) = decimal_most v
-worth_most Unasked = omega arith
+worth_most (Some v) = decimal_most v
+worth_most None = omega arith
 
 pub worth_far : (w : Worth) {at next : ℕ} {text left : List ℕ} → Wrote (worth_text w) at text next left → next ≤ at + 20
 worth_far w h = omega (arith, h.next, worth_most w)

@@ -1,5 +1,6 @@
 -- Entries that have passed the tests: each by its place, and what that gives of their rows, columns and values counted from 0.
 -- Assumes nothing.
+use Rattle.std.specs.Prelude.{Ok}
 use mathlib.Core.Path.{◌≡◌, refl, sym, ◌∙◌}
 use mathlib.Core.Bool.{Bool, true, false, not, ◌&&◌, ◌||◌}
 use mathlib.Core.List.{List, [], ◌∷◌}
@@ -13,7 +14,6 @@ use borrow.Author.Tests.{ltb-false, leb-false, eqb-false, lt-ltb, le-ltb, lt-leb
 use Rattle.sparse.specs.Refusals.{refuse}
 use Rattle.sparse.specs.Tests.{value_test, values_test}
 use Rattle.sparse.specs.declared.Refusal.TheVariants.{Value, Outside, Order}
-use Rattle.sparse.specs.declared.Tested.TheVariants.{Good}
 use Rattle.sparse.specs.declared.inside.Clause.TheVariants.{Residue}
 use Rattle.sparse.proofs.Firsts.{refuse_good, refuse_false, lowest_good, neither, all_good}
 use Rattle.triplets.specs.Asks.{Parts}
@@ -73,7 +73,7 @@ pub record Small (nrows ncols : ℕ) (ts : List Triplet) : Type 0 where
   pub wide : ncols ≤ 64
   pub few : length ts ≤ 1024
 
-module _ (nrows ncols : ℕ) (ts : List Triplet) (good : entries_test nrows ncols ts ≡ Good) where
+module _ (nrows ncols : ℕ) (ts : List Triplet) (good : entries_test nrows ncols ts ≡ Ok tt) where
   pub small : Small nrows ncols ts
   unfolding entries_test
   small =
@@ -136,16 +136,16 @@ module _ (nrows ncols : ℕ) (ts : List Triplet) (good : entries_test nrows ncol
   unfolding rows_in cols_in values_in
   parts = record { row_each = length-map ts _ ∙ sym (length-map ts _); col_each = length-map ts _ ∙ sym (length-map ts _) }
 
-  pub residues : values_test Residue modulus vals ≡ Good
+  pub residues : values_test Residue modulus vals ≡ Ok tt
   unfolding values_test value_test
   residues = all_good (length vals) (λ k. value_test Residue modulus (get_or vals k 0))
       (λ k h. refuse_false _ Value (lt-leb modulus (get_or vals k 0) (rw (value_at_lem k) (placed k (omega (arith, many))).small)))
 
-  pub places : places_test nrows ncols (triplets rows cols vals) ≡ Good
+  pub places : places_test nrows ncols (triplets rows cols vals) ≡ Ok tt
   unfolding places_test place_test
   places = all_good (length (triplets rows cols vals)) (λ k. place_test nrows ncols (at (triplets rows cols vals) k)) one
     where
-      one : (k : ℕ) → k < length (triplets rows cols vals) → refuse (leb nrows (at (triplets rows cols vals) k).row || leb ncols (at (triplets rows cols vals) k).col) Outside ≡ Good
+      one : (k : ℕ) → k < length (triplets rows cols vals) → refuse (leb nrows (at (triplets rows cols vals) k).row || leb ncols (at (triplets rows cols vals) k).col) Outside ≡ Ok tt
       one k h =
           let l : k < length vals = rw (length-triplets rows cols vals) at h in
           let p = placed k (omega (arith, many)) in
@@ -161,7 +161,7 @@ module _ (nrows ncols : ℕ) (ts : List Triplet) (good : entries_test nrows ncol
       let up = rw back at (next (k - 1) (omega (arith, many))) in
       rw (lt-ltb 0 k later, row_at_lem (k - 1), row_at_lem k, col_at (k - 1), col_at k, ltb_back _ _ p.row_from q.row_from, eqb_back _ _ p.row_from q.row_from, ltb_back _ _ p.col_from q.col_from, up)
 
-  pub order : order_test (triplets rows cols vals) ≡ Good
+  pub order : order_test (triplets rows cols vals) ≡ Ok tt
   unfolding order_test
   order = all_good (length (triplets rows cols vals)) (step_test (triplets rows cols vals))
       (λ k h.

@@ -1,5 +1,6 @@
 -- The U that `solve` leaves can be written, and within 64 columns the whole output fits in 163,840 bytes.
 -- Assumes nothing.
+use Rattle.std.specs.Prelude.{Ok}
 use mathlib.Core.Path.{◌≡◌}
 use mathlib.Core.List.{[], ◌∷◌, ◌++◌}
 use Prim.Native.Nat.{ℕ, ◌+◌, ◌≤◌}
@@ -8,7 +9,6 @@ use lib.ListN.{length, take, length-append}
 use lib.Seq.{length-take-le}
 use Rattle.sparse.specs.Matrix.{Matrix, matrix}
 use Rattle.sparse.specs.Tests.{clean}
-use Rattle.sparse.specs.declared.Tested.TheVariants.{Good}
 use Rattle.sparse.proofs.Cuts.{Laid}
 use Rattle.state.specs.Memory.{Memory}
 use Rattle.state.specs.declared.Counts.{Counts}
@@ -29,7 +29,7 @@ module _ {p n : ℕ} {kind : Mode} {c : Counts} {m : Memory} (r : Settled p n ki
   abbrev u : Matrix
   u = matrix c.rank c.ncols (take (c.rank + 1) m.u_ptrs) (take c.u_fill m.u_cols) (take c.u_fill m.u_vals)
 
-  tidy : clean 1048576 c.modulus u ≡ Good
+  tidy : clean 1048576 c.modulus u ≡ Ok tt
   tidy = state_clean c.modulus c.ncols c.rank c.u_fill m.u_cols m.u_vals m.u_ptrs m.pivots r.stands.opened (parts c (lists m []) r.stands).lost (parts c (lists m []) r.stands).fault
 
   laid : Laid u

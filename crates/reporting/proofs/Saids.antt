@@ -1,5 +1,6 @@
 -- The matrix that a text says is clean, where its entries have passed the tests.
 -- Assumes nothing.
+use Rattle.std.specs.Prelude.{Ok}
 use mathlib.Core.Path.{◌≡◌, refl, sym, ap, ◌∙◌}
 use mathlib.Core.Bool.{not}
 use mathlib.Core.List.{List}
@@ -14,7 +15,6 @@ use Rattle.sparse.specs.Matrix.{Matrix, matrix, part, row}
 use Rattle.sparse.specs.Refusals.{refuse}
 use Rattle.sparse.specs.Tests.{modulus_test, size_test, value_test, values_test, rows_values_test, well_formed, clean}
 use Rattle.sparse.specs.declared.Refusal.TheVariants.{Modulus, Size, Zero}
-use Rattle.sparse.specs.declared.Tested.TheVariants.{Good}
 use Rattle.sparse.specs.declared.inside.Clause.TheVariants.{Nonzero}
 use Rattle.sparse.proofs.Cuts.{formed_laid}
 use Rattle.sparse.proofs.Firsts.{refuse_false, lowest_skip, lowest_last, all_good}
@@ -28,11 +28,11 @@ use Rattle.reporting.specs.Said.{matrix_said}
 use Rattle.reporting.proofs.Entries.{Small, small, placed, value_at_lem, many, parts, residues, places, order}
 
 -- 2^31 - 1 is a modulus
-modulus_good : modulus_test modulus ≡ Good
+modulus_good : modulus_test modulus ≡ Ok tt
 unfolding modulus_test modulus
 modulus_good = refuse_false _ Modulus (ap not (largest_modulus refl))
 
-module _ (nrows ncols : ℕ) (ts : List Triplet) (good : entries_test nrows ncols ts ≡ Good) where
+module _ (nrows ncols : ℕ) (ts : List Triplet) (good : entries_test nrows ncols ts ≡ Ok tt) where
   abbrev vals : List ℕ
   vals = values_in ts
 
@@ -42,13 +42,13 @@ module _ (nrows ncols : ℕ) (ts : List Triplet) (good : entries_test nrows ncol
   abbrev a : Matrix
   a = matrix nrows ncols ptrs (cols_in ts) vals
 
-  sizes : size_test 65536 nrows ncols (length vals) ≡ Good
+  sizes : size_test 65536 nrows ncols (length vals) ≡ Ok tt
   unfolding size_test
   sizes =
       let s : Small nrows ncols ts = small nrows ncols ts good in
       refuse_false _ Size (rw (le-ltb 1024 nrows (omega (arith, s.high)), le-ltb 1024 ncols (omega (arith, s.wide)), le-ltb 65536 (length vals) (omega (arith, s.few, many nrows ncols ts good))))
 
-  formed : well_formed 65536 modulus a ≡ Good
+  formed : well_formed 65536 modulus a ≡ Ok tt
   unfolding well_formed
   formed =
       lowest_skip _ modulus_good
@@ -56,7 +56,7 @@ module _ (nrows ncols : ℕ) (ts : List Triplet) (good : entries_test nrows ncol
       ∙ sym (lowest_last refl)
       ∙ form_good modulus nrows ncols (rows_in ts) (cols_in ts) vals (parts nrows ncols ts good) (residues nrows ncols ts good) (places nrows ncols ts good) (order nrows ncols ts good)
 
-  stored : (i : ℕ) → i < nrows → values_test Nonzero modulus (row ptrs vals i) ≡ Good
+  stored : (i : ℕ) → i < nrows → values_test Nonzero modulus (row ptrs vals i) ≡ Ok tt
   unfolding values_test value_test row
   stored i h = all_good (length (part from to vals)) (λ k. value_test Nonzero modulus (get_or (part from to vals) k 0)) one
     where
@@ -69,12 +69,12 @@ module _ (nrows ncols : ℕ) (ts : List Triplet) (good : entries_test nrows ncol
       fits : to ≤ length vals
       fits = (formed_laid 65536 modulus a formed).rows.within i h
 
-      one : (k : ℕ) → k < length (part from to vals) → refuse (eqb (get_or (part from to vals) k 0) 0) Zero ≡ Good
+      one : (k : ℕ) → k < length (part from to vals) → refuse (eqb (get_or (part from to vals) k 0) 0) Zero ≡ Ok tt
       one k l =
           let short : k < to - from = omega (arith, length_part from to vals fits) in
           let here : get_or (part from to vals) k 0 ≡ (at ts (from + k)).value = get_d_part from to vals k 0 short ∙ value_at_lem nrows ncols ts good (from + k) in
           rw here (refuse_false _ Zero (ne_eqb _ 0 (placed nrows ncols ts good (from + k) (omega (arith, fits, many nrows ncols ts good))).stored))
 
-  pub said_clean : clean 65536 modulus (matrix_said (market_of nrows ncols ts)) ≡ Good
+  pub said_clean : clean 65536 modulus (matrix_said (market_of nrows ncols ts)) ≡ Ok tt
   unfolding clean rows_values_test matrix_said
   said_clean = lowest_skip _ formed ∙ sym (lowest_last refl) ∙ all_good nrows (λ i. values_test Nonzero modulus (row ptrs vals i)) stored

@@ -1,5 +1,6 @@
 -- How long the output is: within 64 rows and columns a piece with its comma has at most 30 bytes, and U at most 64 × 64 pieces.
 -- Assumes nothing.
+use Rattle.std.specs.Prelude.{Ok}
 use mathlib.Core.Path.{◌≡◌, refl, ap, ◌∙◌}
 use mathlib.Core.List.{List, [], ◌∷◌, ◌++◌, map, flatten}
 use Prim.Native.Nat.{ℕ, zero, suc, ◌+◌, ◌*◌, ◌/◌, ◌%◌, ◌≤◌, ◌<◌}
@@ -11,7 +12,6 @@ use Rattle.lists.proofs.Tables.{get_or-table}
 use Rattle.sparse.specs.Matrix.{Matrix, row}
 use Rattle.sparse.specs.Rows.{Entry, entry, entries, rows_of, row_at}
 use Rattle.sparse.specs.Tests.{clean}
-use Rattle.sparse.specs.declared.Tested.TheVariants.{Good}
 use Rattle.meaning.proofs.CleanRows.{clean_row, clean_entries}
 use Rattle.meaning.proofs.RowLists.{flatten_snoc, length-entries}
 use Rattle.steps.proofs.Entries.{climbs_few}
@@ -55,7 +55,7 @@ unfolding weight
 row_weight i h [] low = omega arith
 row_weight i h (e ∷ es) low = omega (arith, piece_short i e.col e.value h (low 0 (omega arith)), row_weight i h es (λ k l. low (suc k) (omega arith)))
 
-module _ (limit p : ℕ) (m : Matrix) (good : clean limit p m ≡ Good) (high : m.nrows ≤ 64) (wide : m.ncols ≤ 64) where
+module _ (limit p : ℕ) (m : Matrix) (good : clean limit p m ≡ Ok tt) (high : m.nrows ≤ 64) (wide : m.ncols ≤ 64) where
   abbrev row_pieces : ℕ → List (List ℕ)
   row_pieces i = map (λ (e : Entry). piece i e.col e.value) (row_at m i)
 

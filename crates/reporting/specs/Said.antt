@@ -1,10 +1,9 @@
 -- What a text says, by its size line, and the matrix of it in lent memory.
-use Rattle.std.specs.Prelude.{◌≡◌, List, [], map, ℕ, ◌+◌, ◌≤◌, length, drop}
+use Rattle.std.specs.Prelude.{◌≡◌, List, [], map, ℕ, ◌+◌, ◌≤◌, length, drop, Ok}
 use Rattle.lists.specs.Onto.{◌onto◌}
 use Rattle.lists.specs.Table.{table}
 use Rattle.sparse.specs.Lent.{Lent}
 use Rattle.sparse.specs.Matrix.{Matrix, matrix}
-use Rattle.sparse.specs.declared.Tested.TheVariants.{Good}
 use Rattle.triplets.specs.Triplets.{Triplet, start_of, written}
 use Rattle.market.specs.Asks.{from_zero, rows_in, cols_in, values_in}
 use Rattle.market.specs.Parse.{got, lines, Market, market_of}
@@ -26,7 +25,7 @@ said_by text size = market_of size.row size.col (entries_of text size)
 
 -- entries that passed the tests follow the size line
 pub record Passed (text : List ℕ) (size : Numbers) : Type 0 where
-  pub good : entries_test size.row size.col (entries_of text size) ≡ Good
+  pub good : entries_test size.row size.col (entries_of text size) ≡ Ok tt
   pub read : lines size.value (drop size.next text) ≡ got (entries_of text size) []
 
 -- and there is room for them, and for their matrix

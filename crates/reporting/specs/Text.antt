@@ -1,13 +1,12 @@
 -- The program's output: rank, determinant and U, a line each.
-use Rattle.std.specs.Prelude.{ℕ, ◌+◌, List, [], ◌∷◌, ◌++◌, take}
+use Rattle.solving.specs.Solve.{Worth}
+use Rattle.std.specs.Prelude.{ℕ, ◌+◌, List, [], ◌∷◌, ◌++◌, take, None, Some}
 use Rattle.sparse.specs.Matrix.{Matrix, matrix}
 use Rattle.text.specs.Decimals.{decimal}
 use Rattle.text.specs.Mma.{matrix_text}
 use Rattle.state.specs.Memory.{Memory}
 use Rattle.state.specs.declared.Counts.{Counts}
 use Rattle.solving.specs.declared.Solved.{Solved}
-use Rattle.solving.specs.declared.Worth.{Worth}
-use Rattle.solving.specs.declared.Worth.TheVariants.{Number, Unasked}
 
 -- U, a matrix of as many rows as its rank
 unfoldable pub upper_of : Counts → Memory → Matrix
@@ -15,8 +14,8 @@ upper_of c m = matrix c.rank c.ncols (take (c.rank + 1) m.u_ptrs) (take c.u_fill
 
 -- the determinant, or `none` where the matrix isn't square
 unfoldable pub worth_text : Worth → List ℕ
-worth_text (Number v) = decimal v
-worth_text Unasked = 110 ∷ 111 ∷ 110 ∷ 101 ∷ []
+worth_text (Some v) = decimal v
+worth_text None = 110 ∷ 111 ∷ 110 ∷ 101 ∷ []
 
 -- rank R and det D, a line each
 unfoldable pub heading : ℕ → Worth → List ℕ

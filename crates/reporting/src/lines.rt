@@ -8,22 +8,22 @@ ghost use Rattle.text.specs.Writers.{Wrote};
 ghost use Rattle.reporting.specs.Asks.{Rows, RowsFrom};
 ghost use Rattle.reporting.specs.Text.{worth_text, heading, report_text};
 
-use solving::{Solved, Worth};
+use solving::Solved;
 use text::inside::{put_byte, put_bytes, put_decimal, put_ending, put_rows};
 
 // A determinant, or none.
-fn put_worth(worth: Worth, at: usize, out: &mut [u8]) -> usize
+fn put_worth(worth: Option<u32>, at: usize, out: &mut [u8]) -> usize
     requires { Reach at 20 }
     ensures { Wrote (worth_text worth) at out.old result out.new }
 {
     match worth {
-        Worth::Number(value) => put_decimal(value as u64, at, out),
-        Worth::Unasked => put_bytes(b"none", at, out),
+        Some(value) => put_decimal(value as u64, at, out),
+        None => put_bytes(b"none", at, out),
     }
 }
 
 // The lines of the rank and of the determinant.
-fn put_heading(rank: usize, det: Worth, out: &mut [u8]) -> usize
+fn put_heading(rank: usize, det: Option<u32>, out: &mut [u8]) -> usize
     ensures { Wrote (heading rank det) 0 out.old result out.new }
 {
     let number = put_bytes(b"rank ", 0, out);

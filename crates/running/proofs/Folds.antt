@@ -1,23 +1,22 @@
 -- The fold of rows, as a loop sees it: what is left of it, while the call goes on.
 -- Assumes nothing.
+use Rattle.std.specs.Prelude.{Err, Ok}
 use mathlib.Core.Path.{◌≡◌, refl, sym, ap, subst, ◌∙◌}
 use mathlib.Core.Bool.{Bool, true, false, ◌&&◌, cond}
 use mathlib.Core.List.{List, [], ◌∷◌}
-use Prim.Native.Nat.{ℕ, suc, ◌+◌, ◌-◌, ◌≤◌, ◌<◌}
+use Prim.Native.Nat.{ℕ, suc, ◌+◌, ◌≤◌, ◌<◌}
 use native.Mathlib.Omega.{arith}
 use native.Mathlib.Numerals.{add-one}
 use lib.ListN.{length, drop}
 use lib.Seq.{drop-cons, drop-length}
+use Rattle.sparse.specs.Refusals.{Tested}
 use Rattle.lists.proofs.Tables.{length-table}
 use Rattle.sparse.specs.Lent.{Outcome, outcome, unless}
 use Rattle.sparse.specs.Matrix.{Matrix, row}
 use Rattle.sparse.specs.Rows.{Entry, entries, rows_of, row_at}
-use Rattle.sparse.specs.declared.Tested.{Tested}
-use Rattle.sparse.specs.declared.Tested.TheVariants.{Good, Refused as Unfit}
 use Rattle.state.specs.Memory.{Memory}
 use Rattle.state.specs.declared.Counts.{Counts}
-use Rattle.walk.specs.Step.{is_none}
-use Rattle.walk.specs.declared.Answer.{Answer}
+use Rattle.walk.specs.Step.{is_none, Answer}
 use Rattle.stepping.specs.Asks.{Stands}
 use Rattle.stepping.specs.Take.{lists, room_asked, row_step, step_row}
 use Rattle.keeping.proofs.Keeps.{step_stands}
@@ -61,7 +60,7 @@ rows_over on check (es ∷ rs) o e = ap (take_rows on check rs) (then_over on ch
 
 -- the counts and lists after a row, where the call goes on
 pub record More (on : Bool) (es : List Entry) (r : Run) (w : Written) (more : Run) (v : Written) : Type 0 where
-  pub room : room_asked r.counts es w.memory ≡ Good
+  pub room : room_asked r.counts es w.memory ≡ Ok tt
   pub taken : more.taken ≡ r.taken + 1
   pub counts : more.counts ≡ (row_step on r.counts es w.memory).answer.counts
   pub memory : v.memory ≡ (row_step on r.counts es w.memory).memory
@@ -85,21 +84,10 @@ unfolding next_row unless counted is_over
 next_more on check es r w more v e = go (room_asked r.counts es w.memory) refl e
   where
     go : (f : Tested) → room_asked r.counts es w.memory ≡ f → outcome (Taken more) v ≡ unless (λ why. Stopped (stop why r)) f w (counted check r.taken (row_step on r.counts es w.memory) w.answers) → More on es r w more v
-    go (Unfit why) f q = let z : false ≡ true = ap (λ (o : Outcome Reduced Written). is_over o.answer) q in let y : ◌≡◌ {A = ℕ} 0 1 = cc in absurd (omega arith)
-    go Good f q =
+    go (Err why) f q = let z : false ≡ true = ap (λ (o : Outcome Reduced Written). is_over o.answer) q in let y : ◌≡◌ {A = ℕ} 0 1 = cc in absurd (omega arith)
+    go (Ok _) f q =
         let on_it = went_on check _ (run (r.taken + 1) (row_step on r.counts es w.memory).answer.counts) more (sym (ap (λ (o : Outcome Reduced Written). o.answer) q)) in
         record { room = f; taken = sym (ap (λ (x : Run). x.taken) on_it); counts = sym (ap (λ (x : Run). x.counts) on_it); memory = ap (λ (o : Outcome Reduced Written). o.memory.memory) q }
-
--- the lengths of what is lent stay
-pub record Long (v w : Night) : Type 0 where
-  pub u_cols : length v.memory.u_cols ≡ length w.memory.u_cols
-  pub u_vals : length v.memory.u_vals ≡ length w.memory.u_vals
-  pub u_ptrs : length v.memory.u_ptrs ≡ length w.memory.u_ptrs
-  pub l_cols : length v.memory.l_cols ≡ length w.memory.l_cols
-  pub l_vals : length v.memory.l_vals ≡ length w.memory.l_vals
-  pub l_ptrs : length v.memory.l_ptrs ≡ length w.memory.l_ptrs
-  pub pivots : length v.memory.pivots ≡ length w.memory.pivots
-  pub answers : length v.answers ≡ length w.answers
 
 -- what is left of the fold, before a row
 pub record Going (on check : Bool) (a : Matrix) (c : Counts) (v : Night) (r : Run) (w : Night) : Type 0 where
@@ -107,7 +95,6 @@ pub record Going (on check : Bool) (a : Matrix) (c : Counts) (v : Night) (r : Ru
   pub within : r.taken ≤ a.nrows
   pub left : take_rows on check (drop r.taken (rows_of a)) (outcome (Taken r) (written w.memory w.answers)) ≡ take_rows on check (rows_of a) (outcome (Taken (run 0 c)) (written v.memory v.answers))
   pub dense : w.dense ≡ v.dense
-  pub long : Long w v
 
 pub going_start : (on check : Bool) {a : Matrix} {c : Counts} {v : Night} → Goes c a v → Going on check a c v (run 0 c) v
 going_start on check s = record {
@@ -115,7 +102,6 @@ going_start on check s = record {
   within = omega arith;
   left = refl;
   dense = refl;
-  long = record { u_cols = refl; u_vals = refl; u_ptrs = refl; l_cols = refl; l_vals = refl; l_ptrs = refl; pivots = refl; answers = refl };
 }
 
 -- as many rows as are counted
@@ -181,11 +167,11 @@ module _ {on check : Bool} {a : Matrix} {c : Counts} {v : Night} {r : Run} {w : 
           let q : Stands (row_step on r.counts es w.memory).answer.counts (lists (row_step on r.counts es w.memory).memory d) = subst (λ (xs : List Entry). Stands (row_step on r.counts xs w.memory).answer.counts (lists (row_step on r.counts xs w.memory).memory d)) row_is (record { opened = s.opened; state = s.state }) in
           rw (mores.counts, mores.memory) q
 
-      pub going_less : a.nrows - more.taken < a.nrows - r.taken
-      going_less = omega (arith, mores.taken)
+      pub going_taken : more.taken ≡ r.taken + 1
+      going_taken = mores.taken
 
-      pub going_more : Long (night m answers d) w → Going on check a c v more (night m answers d)
-      going_more same = record {
+      pub going_more : Going on check a c v more (night m answers d)
+      going_more = record {
         goes = record {
           stands = stands;
           fits = record {
@@ -200,14 +186,4 @@ module _ {on check : Bool} {a : Matrix} {c : Counts} {v : Night} {r : Run} {w : 
             ∙ ap (λ (y : Reduced). take_rows on check (drop (suc r.taken) (rows_of a)) (outcome y (written m answers))) (sym e)
             ∙ rest;
         dense = same_dense ∙ g.dense;
-        long = record {
-          u_cols = same.u_cols ∙ g.long.u_cols;
-          u_vals = same.u_vals ∙ g.long.u_vals;
-          u_ptrs = same.u_ptrs ∙ g.long.u_ptrs;
-          l_cols = same.l_cols ∙ g.long.l_cols;
-          l_vals = same.l_vals ∙ g.long.l_vals;
-          l_ptrs = same.l_ptrs ∙ g.long.l_ptrs;
-          pivots = same.pivots ∙ g.long.pivots;
-          answers = same.answers ∙ g.long.answers;
-        };
       }

@@ -1,76 +1,61 @@
 -- One row more of a clean matrix: where it lies, that it is clean, and each outcome.
 -- Assumes nothing.
-use mathlib.Core.Path.{◌≡◌, refl, sym, ap, subst, ◌∙◌}
-use mathlib.Core.Bool.{Bool, true, false}
-use mathlib.Core.List.{List, []}
-use Prim.Native.Nat.{ℕ, ◌+◌, ◌≤◌, ◌<◌}
-use native.Mathlib.Omega.{arith}
-use lib.ListN.{length, get_or, set}
+use Rattle.std.specs.Prelude.{Err, Ok}
+use mathlib.Core.Path.{◌≡◌, refl, sym, ap, ◌∙◌}
+use mathlib.Core.Bool.{Bool}
+use mathlib.Core.List.{List}
+use Prim.Native.Nat.{ℕ, ◌+◌}
+use lib.ListN.{set}
+use Rattle.sparse.specs.Refusals.{Tested}
 use Rattle.lists.specs.Table.{table}
-use Rattle.lists.proofs.Tables.{get_or-table}
 use Rattle.sparse.specs.Lent.{Outcome, outcome, unless}
 use Rattle.sparse.specs.Matrix.{Matrix, row}
-use Rattle.sparse.specs.Rows.{Entry, entries, rows_of, row_at}
-use Rattle.sparse.specs.Tests.{rows_values_test, values_test, matrix_test, well_formed, clean}
+use Rattle.sparse.specs.Rows.{Entry, entries, row_at}
 use Rattle.sparse.specs.declared.Refusal.{Refusal}
-use Rattle.sparse.specs.declared.Tested.{Tested}
-use Rattle.sparse.specs.declared.Tested.TheVariants.{Good, Refused as Unfit}
-use Rattle.sparse.specs.declared.inside.Clause.TheVariants.{Residue, Nonzero}
-use Rattle.sparse.proofs.Cuts.{Laid, formed_laid, formed_rows, row_in, Within, small, Small}
-use Rattle.sparse.proofs.Firsts.{lowest_good, each_good}
-use Rattle.meaning.proofs.Parts.{length_part}
-use Rattle.meaning.proofs.RowColumns.{row_climbs}
-use Rattle.meaning.proofs.RowLists.{part_entries}
-use Rattle.meaning.proofs.Values.{Climbs}
 use Rattle.state.specs.Memory.{Memory}
 use Rattle.state.specs.declared.Counts.{Counts}
-use Rattle.walk.specs.Step.{is_none}
-use Rattle.walk.specs.declared.Answer.{Answer}
-use Rattle.walk.specs.declared.Answer.TheVariants.{Accepted}
 use Rattle.stepping.specs.Asks.{Offered, Ready}
 use Rattle.stepping.specs.Take.{Lists, lists, room_asked, row_step, step_row}
 use Rattle.stepping.specs.declared.Stepped.{Stepped}
 use Rattle.stepping.proofs.MatrixRows.{Place, place, row_here, row_offered}
 use Rattle.stepping.proofs.Clears.{cleared_zero}
-use Rattle.adding.specs.AddRow.{answered_with, take_row}
-use Rattle.adding.specs.declared.Added.{Added}
-use Rattle.adding.specs.declared.Added.TheVariants.{Answered, Refused}
+use Rattle.adding.specs.AddRow.{answered_with, take_row, Added}
 use Rattle.telling.specs.Answers.{number}
 use Rattle.running.specs.Asks.{Offers, GoesOn}
 use Rattle.running.specs.Rows.{Night, Written, written, counted, next_row}
 use Rattle.telling.specs.Runs.{run, stop, ended}
 use Rattle.telling.specs.declared.Reduced.{Reduced}
-use Rattle.telling.specs.declared.Reduced.TheVariants.{Taken, Stopped}
+use Rattle.telling.specs.declared.Reduced.TheVariants.{Stopped}
 use Rattle.telling.specs.declared.Run.{Run}
 
 -- a row that is offered
 module _ {c : Counts} {cols vals : List ℕ} {o : Lists} (s : Offers c cols vals o) where
-  pub offers_ready : room_asked c (entries cols vals) o.memory ≡ Good → Ready c cols vals o
+  pub offers_ready : room_asked c (entries cols vals) o.memory ≡ Ok tt → Ready c cols vals o
   offers_ready room = record { stands = s.stands; row = s.row; room = room; zero = s.zero }
 
   module _ (on : Bool) {r : Tested} (asked : r ≡ room_asked c (entries cols vals) o.memory) where
-    pub offers_refused : {why : Refusal} → r ≡ Unfit why → outcome (Refused why) o ≡ take_row on c (entries cols vals) o
+    pub offers_refused : {why : Refusal} → r ≡ Err why → outcome (Err why) o ≡ take_row on c (entries cols vals) o
     unfolding take_row unless
     offers_refused e = rw (sym asked ∙ e)
 
-    pub offers_taken : r ≡ Good → {x : Stepped} {after : Lists} → outcome x after ≡ step_row on c (entries cols vals) o → outcome (Answered x) after ≡ take_row on c (entries cols vals) o
+    pub offers_taken : r ≡ Ok tt → {x : Stepped} {after : Lists} → outcome x after ≡ step_row on c (entries cols vals) o → outcome (Ok x) after ≡ take_row on c (entries cols vals) o
     unfolding take_row unless answered_with
     offers_taken e took = rw (sym asked ∙ e) (ap answered_with took)
 
 -- what a row's outcome comes to in a call of many rows
 unfoldable turned : Bool → Run → List ℕ → Added → Lists → Outcome (Outcome Reduced Written) (List ℕ)
-turned check r answers (Refused why) o = outcome (outcome (Stopped (stop why r)) (written o.memory answers)) o.dense
-turned check r answers (Answered y) o = outcome (outcome (ended check y.answer (run (r.taken + 1) y.counts)) (written o.memory (set answers r.taken (number y.answer)))) o.dense
+turned check r answers (Err why) o = outcome (outcome (Stopped (stop why r)) (written o.memory answers)) o.dense
+turned check r answers (Ok y) o = outcome (outcome (ended check y.answer (run (r.taken + 1) y.counts)) (written o.memory (set answers r.taken (number y.answer)))) o.dense
 
 turn_same : (on check : Bool) (r : Run) (es : List Entry) (m : Memory) (answers dense : List ℕ) → dense ≡ table r.counts.ncols (λ j. 0)
     → turned check r answers (take_row on r.counts es (lists m dense)).answer (take_row on r.counts es (lists m dense)).memory ≡ outcome (next_row on check es r (written m answers)) dense
 unfolding turned take_row next_row unless answered_with step_row counted
 turn_same on check r es m answers dense zero = go (room_asked r.counts es m)
   where
-    go : (f : Tested) → turned check r answers (unless Refused f (lists m dense) (answered_with (step_row on r.counts es (lists m dense)))).answer (unless Refused f (lists m dense) (answered_with (step_row on r.counts es (lists m dense)))).memory
+    go : (f : Tested) → turned check r answers (unless Err f (lists m dense) (answered_with (step_row on r.counts es (lists m dense)))).answer (unless Err f (lists m dense) (answered_with (step_row on r.counts es (lists m dense)))).memory
         ≡ outcome (unless (λ why. Stopped (stop why r)) f (written m answers) (counted check r.taken (row_step on r.counts es m) answers)) dense
-    go Good = rw (cleared_zero r.counts.ncols dense zero)
-    go (Unfit why) = refl
+    go (Ok _) = rw (cleared_zero r.counts.ncols dense zero)
+    go (Err why) = refl
 
 -- the next row
 module _ {r : Run} {a : Matrix} {w : Night} (s : GoesOn r a w) where
@@ -103,10 +88,10 @@ module _ {r : Run} {a : Matrix} {w : Night} (s : GoesOn r a w) where
         ∙ turn_same on check r (entries cols vals) w.memory w.answers w.dense s.goes.zero
         ∙ ap (λ (es : List Entry). outcome (next_row on check es r (written w.memory w.answers)) w.dense) here
 
-    pub next_stopped : (check : Bool) {why : Refusal} → x ≡ Refused why → outcome (outcome (Stopped (stop why r)) (written m w.answers)) d ≡ outcome (next_row on check (row_at a i) r (written w.memory w.answers)) w.dense
+    pub next_stopped : (check : Bool) {why : Refusal} → x ≡ Err why → outcome (outcome (Stopped (stop why r)) (written m w.answers)) d ≡ outcome (next_row on check (row_at a i) r (written w.memory w.answers)) w.dense
     unfolding turned
     next_stopped check e = sym (ap (λ (y : Added). turned check r w.answers y (lists m d)) e) ∙ next_turned check
 
-    pub next_taken : (check : Bool) {y : Stepped} → x ≡ Answered y → {z : Reduced} {answers : List ℕ} → z ≡ ended check y.answer (run (i + 1) y.counts) → answers ≡ set w.answers i (number y.answer) → outcome (outcome z (written m answers)) d ≡ outcome (next_row on check (row_at a i) r (written w.memory w.answers)) w.dense
+    pub next_taken : (check : Bool) {y : Stepped} → x ≡ Ok y → {z : Reduced} {answers : List ℕ} → z ≡ ended check y.answer (run (i + 1) y.counts) → answers ≡ set w.answers i (number y.answer) → outcome (outcome z (written m answers)) d ≡ outcome (next_row on check (row_at a i) r (written w.memory w.answers)) w.dense
     unfolding turned
     next_taken check e q n = rw (q, n) (sym (ap (λ (y : Added). turned check r w.answers y (lists m d)) e) ∙ next_turned check)

@@ -1,9 +1,8 @@
 -- What taking rows asks for: what the tests have shown.
-use Rattle.std.specs.Prelude.{◌≡◌, List, ℕ, ◌<◌}
+use Rattle.std.specs.Prelude.{◌≡◌, List, ℕ, ◌<◌, Ok}
 use Rattle.lists.specs.Table.{table}
 use Rattle.sparse.specs.Matrix.{Matrix}
 use Rattle.sparse.specs.Tests.{clean}
-use Rattle.sparse.specs.declared.Tested.TheVariants.{Good}
 use Rattle.state.specs.declared.Counts.{Counts}
 use Rattle.stepping.specs.Asks.{Stands, Offered}
 use Rattle.stepping.specs.Take.{Lists, lists}
@@ -18,7 +17,7 @@ pub record Offers (c : Counts) (cols vals : List ℕ) (o : Lists) : Type 0 where
 
 -- clean rows of as many columns
 pub record Fits (c : Counts) (a : Matrix) : Type 0 where
-  pub rows : clean 65536 c.modulus a ≡ Good
+  pub rows : clean 65536 c.modulus a ≡ Ok tt
   pub columns : a.ncols ≡ c.ncols
 
 -- a state, such rows, and dense memory that is zero, a place for each column

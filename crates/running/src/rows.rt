@@ -11,9 +11,9 @@ ghost use Rattle.running.specs.Rows.{written, night, next_row, take_rows};
 ghost use Rattle.telling.specs.Runs.{run};
 ghost use Rattle.telling.specs.declared.Reduced.TheVariants.{Taken};
 
-use adding::Added;
-use sparse::Tested;
+use sparse::Refusal;
 use state::Counts;
+use stepping::Stepped;
 use stepping::rows::{room_asked, step_row};
 use telling::answers::{ended, tell};
 use telling::{Reduced, Run, Stop};
@@ -42,7 +42,7 @@ pub fn take_rows(
     ensures { outcome (outcome result (written (memory u_cols.new u_vals.new u_ptrs.new l_cols.new l_vals.new l_ptrs.new pivots.new) answers.new)) dense.new ≡ outcome (take_rows on check (rows_of (matrix nrows ncols row_ptrs.now col_idcs.now values.now)) (outcome (Taken (run 0 counts)) (written (memory u_cols.old u_vals.old u_ptrs.old l_cols.old l_vals.old l_ptrs.old pivots.old) answers.old))) dense.old }
 {
     let mut run = Run { taken: 0, counts };
-    while run.taken < nrows {
+    for _ in 0..nrows {
         let next = next_row(
             on, check, run, nrows, ncols, row_ptrs, col_idcs, values, dense, answers, u_cols,
             u_vals, u_ptrs, l_cols, l_vals, l_ptrs, pivots,
@@ -97,8 +97,8 @@ fn next_row(
         pivots,
     );
     match added {
-        Added::Refused(why) => Reduced::Stopped(Stop { why, run }),
-        Added::Answered(stepped) => {
+        Err(why) => Reduced::Stopped(Stop { why, run }),
+        Ok(stepped) => {
             let answer = stepped.answer;
             let after = stepped.counts;
             tell(answer, taken, answers);
@@ -125,17 +125,14 @@ fn take_row(
     l_vals: &mut [u32],
     l_ptrs: &mut [usize],
     pivots: &mut [u32],
-) -> Added
+) -> Result<Stepped, Refusal>
     requires { Offers counts cols.now vals.now (lists (memory u_cols.old u_vals.old u_ptrs.old l_cols.old l_vals.old l_ptrs.old pivots.old) dense.old) }
     ensures { outcome result (lists (memory u_cols.new u_vals.new u_ptrs.new l_cols.new l_vals.new l_ptrs.new pivots.new) dense.new) ≡ take_row on counts (entries cols.now vals.now) (lists (memory u_cols.old u_vals.old u_ptrs.old l_cols.old l_vals.old l_ptrs.old pivots.old) dense.old) }
 {
-    let room = room_asked(
+    room_asked(
         counts, cols, vals, u_cols, u_vals, u_ptrs, l_cols, l_vals, l_ptrs, pivots,
-    );
-    if let Tested::Refused(why) = room {
-        return Added::Refused(why);
-    }
-    Added::Answered(step_row(
+    )?;
+    Ok(step_row(
         on, counts, cols, vals, dense, u_cols, u_vals, u_ptrs, l_cols, l_vals, l_ptrs, pivots,
     ))
 }

@@ -1,5 +1,6 @@
 -- Rows followed by accepted ones: none more leaves them, and one more is the last.
 -- Assumes nothing.
+use Rattle.std.specs.Prelude.{None, Some}
 use mathlib.Core.Path.{◌≡◌, sym, ap, fun_ext, ◌∙◌}
 use mathlib.Core.Bool.{cond}
 use mathlib.Core.List.{List, [], ◌∷◌, ◌++◌}
@@ -10,9 +11,7 @@ use borrow.Author.Tests.{lt-ltb, le-ltb}
 use lib.ListN.{length, length-append, get_or-append}
 use lib.Seq.{get_or_at}
 use Rattle.sparse.specs.Rows.{Entry}
-use Rattle.walk.specs.Step.{is_none}
-use Rattle.walk.specs.declared.Answer.{Answer}
-use Rattle.walk.specs.declared.Answer.TheVariants.{Accepted, None}
+use Rattle.walk.specs.Step.{is_none, Answer}
 use Rattle.steps.specs.History.{Told, told, accepted, values_in}
 use Rattle.steps.specs.Rows.{value_of}
 use Rattle.steps.specs.Setting.{with_last}
@@ -51,11 +50,11 @@ module _ (k : ℕ) (r : ℕ → ℕ → ℕ) where
     pub taken_many : (a : Answer) → k + length (accepted ts) + cond (is_none a) 0 1 ≡ k + length (accepted (ts ++ (told es a ∷ [])))
     unfolding is_none
     taken_many None = omega (arith, ap length (accepted_same ts es))
-    taken_many (Accepted g) = omega (arith, ap length (accepted_more ts es g), length-append (accepted ts) (es ∷ []))
+    taken_many (Some g) = omega (arith, ap length (accepted_more ts es g), length-append (accepted ts) (es ∷ []))
 
     pub taken_last : (a : Answer) (i : ℕ) → i < k + length (accepted ts) + cond (is_none a) 0 1 → followed k r (accepted (ts ++ (told es a ∷ []))) i ≡ with_last (k + length (accepted ts)) (value_of es) (followed k r (accepted ts)) i
     unfolding is_none
     taken_last None i h =
         ap (λ (rs : List (List Entry)). followed k r rs i) (accepted_same ts es)
         ∙ sym (last_before (k + length (accepted ts)) (value_of es) (followed k r (accepted ts)) i (omega arith))
-    taken_last (Accepted g) i h = ap (λ (rs : List (List Entry)). followed k r rs i) (accepted_more ts es g) ∙ followed_last (accepted ts) es i (omega arith)
+    taken_last (Some g) i h = ap (λ (rs : List (List Entry)). followed k r rs i) (accepted_more ts es g) ∙ followed_last (accepted ts) es i (omega arith)

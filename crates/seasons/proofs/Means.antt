@@ -1,5 +1,6 @@
 -- From a fresh start, after rows, inserted columns and back substitutions in any order, a row is answered None exactly if it is a combination of the rows accepted before it.
 -- Assumes nothing.
+use Rattle.std.specs.Prelude.{None, Ok}
 use mathlib.Core.Path.{◌≡◌, refl, sym, ap, subst, ◌∙◌}
 use mathlib.Core.Logic.{◌↔◌}
 use mathlib.Core.Bool.{Bool, cond}
@@ -17,13 +18,10 @@ use Rattle.linear.proofs.Span.{span_row, span_trans}
 use Rattle.sparse.specs.Lent.{Lent}
 use Rattle.sparse.specs.Put.{cols_of, values_of}
 use Rattle.sparse.specs.Rows.{Entry, entries}
-use Rattle.sparse.specs.declared.Tested.TheVariants.{Good}
 use Rattle.meaning.proofs.RowLists.{entries_of_lem}
 use Rattle.state.specs.Memory.{Memory}
 use Rattle.state.specs.declared.Counts.{Counts}
-use Rattle.walk.specs.Step.{Upper, is_none}
-use Rattle.walk.specs.declared.Answer.{Answer}
-use Rattle.walk.specs.declared.Answer.TheVariants.{None}
+use Rattle.walk.specs.Step.{Upper, is_none, Answer}
 use Rattle.steps.specs.History.{answered, Told, told, accepted, Next, stays, grows}
 use Rattle.steps.specs.Rows.{value_of, CleanRow}
 use Rattle.steps.specs.Setting.{Inverts, Echelon, with_last}
@@ -42,7 +40,6 @@ use Rattle.widening.proofs.Passed.{widenable}
 use Rattle.widening.proofs.Stands.{add_cols_stands, add_cols_rows}
 use Rattle.reduced.specs.Reduced.{SameSpan}
 use Rattle.backing.specs.Back.{back_counts, reducer, back_substitute}
-use Rattle.backing.specs.declared.Backed.TheVariants.{Made}
 use Rattle.backing.proofs.Results.{back_counted, back_stands, back_rows_span}
 use Rattle.strides.specs.Strides.{Strides, still, stride}
 use Rattle.strides.proofs.Runs.{begun_stands}
@@ -94,7 +91,7 @@ module _ {p n k : ℕ} {r : ℕ → ℕ → ℕ} {c : Counts} {m : Memory} (w : 
     pub known_none : ((row_step on c es m).answer.answer ≡ None) ↔ Combination p n k r (value_of es)
     known_none = let exact = held_none p n (known_inverts w) w.held on es clean in ((λ e. exact.0 (sym answer_here ∙ e)), (λ q. answer_here ∙ exact.1 q))
 
-    module _ (room : room_asked c es m ≡ Good) where
+    module _ (room : room_asked c es m ≡ Ok tt) where
       counted : Counted c (row_step on c es m).answer
       unfolding step_row
       counted = step_counted on c es o
@@ -120,7 +117,7 @@ module _ {p n k : ℕ} {r : ℕ → ℕ → ℕ} {c : Counts} {m : Memory} (w : 
         held = held_after (known_inverts w) w.held on es clean next;
       }
 
-  module _ (ps : List ℕ) (good : add_cols_test c ps m ≡ Good) (s : ℕ → ℕ → ℕ) (rows : (i : ℕ) → i < k → Inserted n ps (r i) (s i)) where
+  module _ (ps : List ℕ) (good : add_cols_test c ps m ≡ Ok tt) (s : ℕ → ℕ → ℕ) (rows : (i : ℕ) → i < k → Inserted n ps (r i) (s i)) where
     pub known_columns : Known p (n + length ps) k s (wider_counts c (length ps)) (widened c ps m)
     unfolding wider_counts
     known_columns =
@@ -141,7 +138,7 @@ module _ {p n k : ℕ} {r : ℕ → ℕ → ℕ} {c : Counts} {m : Memory} (w : 
           };
         }
 
-  module _ (l : Lent) (dense : List ℕ) (after : Counts) (made : (back_substitute c m l dense).answer ≡ Made after) where
+  module _ (l : Lent) (dense : List ℕ) (after : Counts) (made : (back_substitute c m l dense).answer ≡ Ok after) where
     abbrev now : Memory
     now = reducer m (back_substitute c m l dense).memory
 

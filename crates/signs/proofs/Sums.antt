@@ -1,26 +1,17 @@
--- Inversions counted, and entries multiplied, one at a time.
+-- Few inversions at a place, and sums and products one more at a time.
 -- Assumes nothing.
-use mathlib.Core.Path.{◌≡◌, refl, ap, ◌∙◌}
+use mathlib.Core.Path.{◌≡◌, ap}
 use mathlib.Core.Bool.{Bool, true, false, cond}
-use mathlib.Core.List.{List, [], ◌∷◌}
+use mathlib.Core.List.{List}
 use Prim.Native.Nat.{ℕ, zero, suc, ◌+◌, ◌*◌, ◌%◌, ◌≤◌, ◌<◌}
-use native.Mathlib.Nat.{add-zero, mod-lt}
+use native.Mathlib.Nat.{mod-lt}
 use native.Mathlib.Numerals.{add-one}
 use native.Mathlib.Omega.{arith}
-use borrow.Author.Tests.{lt-ltb, le-ltb}
 use lib.Dec.{ltb}
-use lib.ListN.{length, get_or}
+use lib.ListN.{get_or}
 use Rattle.lists.specs.Sum.{Σ}
 use Rattle.sparse.specs.Matrix.{row}
 use Rattle.signs.specs.Value.{last_of, product, greater, inverted}
-
-pub greater_more : (xs : List ℕ) (j k : ℕ) → get_or xs j 0 < get_or xs k 0 → Σ (k + 1) (greater xs j) ≡ Σ k (greater xs j) + 1
-unfolding Σ greater
-greater_more xs j k h = ap (λ (i : ℕ). Σ i (greater xs j)) (add-one k) ∙ rw (lt-ltb (get_or xs j 0) (get_or xs k 0) h)
-
-pub greater_same : (xs : List ℕ) (j k : ℕ) → get_or xs k 0 ≤ get_or xs j 0 → Σ (k + 1) (greater xs j) ≡ Σ k (greater xs j)
-unfolding Σ greater
-greater_same xs j k h = ap (λ (i : ℕ). Σ i (greater xs j)) (add-one k) ∙ rw (le-ltb (get_or xs j 0) (get_or xs k 0) h) (add-zero (Σ k (greater xs j)))
 
 at_most : (b : Bool) → cond b 1 0 ≤ 1
 at_most true = omega arith
@@ -43,12 +34,6 @@ sum_more f k = ap (λ (i : ℕ). Σ i f) (add-one k)
 pub product_more : (p : ℕ) (ptrs vals : List ℕ) (k : ℕ) → product p ptrs vals (k + 1) ≡ product p ptrs vals k * last_of (row ptrs vals k) % p
 unfolding product
 product_more p ptrs vals k = ap (product p ptrs vals) (add-one k)
-
--- of no numbers
-pub last_none : (xs : List ℕ) → length xs ≡ 0 → 0 ≡ last_of xs
-unfolding last_of
-last_none [] e = refl
-last_none (x ∷ xs) e = absurd (omega (arith, e))
 
 -- it is a residue
 pub product_small : (p : ℕ) (ptrs vals : List ℕ) (k : ℕ) → 2 ≤ p → product p ptrs vals k < p

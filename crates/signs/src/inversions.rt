@@ -9,10 +9,8 @@ pub fn inversions(table: &[u32]) -> usize
     ensures { result ≡ Value.inversions table.now }
 {
     let mut sum = 0;
-    let mut place = 0;
-    while place < table.len() {
+    for place in 0..table.len() {
         sum += inverted(table, place);
-        place += 1;
     }
     sum
 }
@@ -22,15 +20,9 @@ fn inverted(table: &[u32], place: usize) -> usize
     requires { PlaceOf table.now place }
     ensures { result ≡ Value.inverted table.now place }
 {
-    let mut count = 0;
-    let mut before = 0;
-    while before < place {
-        let here = before;
-        before += 1;
-        if table[here] <= table[place] {
-            continue;
-        }
-        count += 1;
-    }
-    count
+    let here = table[place];
+    table[..place]
+        .iter()
+        .filter(|before| here < **before)
+        .count()
 }

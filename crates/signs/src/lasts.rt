@@ -11,12 +11,10 @@ pub fn product(p: u32, rows: usize, ptrs: &[usize], vals: &[u32]) -> u32
     ensures { result ≡ Value.product p ptrs.now vals.now rows }
 {
     let mut value = 1;
-    let mut row = 0;
-    while row < rows {
+    for row in 0..rows {
         let start = ptrs[row];
         let end = ptrs[row + 1];
         value = mul(p, value, last_of(&vals[start..end]));
-        row += 1;
     }
     value
 }
@@ -25,8 +23,5 @@ pub fn product(p: u32, rows: usize, ptrs: &[usize], vals: &[u32]) -> u32
 fn last_of(numbers: &[u32]) -> u32
     ensures { result ≡ Value.last_of numbers.now }
 {
-    if numbers.len() == 0 {
-        return 0;
-    }
-    numbers[numbers.len() - 1]
+    numbers.last().copied().unwrap_or(0)
 }

@@ -1,5 +1,6 @@
 -- Worked examples modulo 7: the determinant beside the rank.
 -- Assumes nothing.
+use Rattle.std.specs.Prelude.{None, Some}
 use mathlib.Core.Path.{◌≡◌, refl}
 use mathlib.Core.List.{List, [], ◌∷◌}
 use Prim.Native.Nat.{ℕ}
@@ -35,7 +36,6 @@ use Rattle.batches.specs.Tests.{short_test}
 use Rattle.anew.specs.Calls.{from_matrix_test, from_matrix}
 use Rattle.solving.specs.Solve.{worth_of, worth, afresh, solved_of, solve}
 use Rattle.solving.specs.Solve as S
-use Rattle.solving.specs.declared.Worth.TheVariants.{Number, Unasked}
 use Rattle.running.specs.Rows.{Night}
 
 abbrev zeros : List ℕ
@@ -45,16 +45,16 @@ abbrev lent : Night
 lent = night (memory zeros zeros zeros zeros zeros zeros zeros) zeros zeros
 
 -- (2,4,0), (3,6,5), (0,3,1): determinant 5, rank 3
-pub whole : (solve 7 (matrix 3 3 (0 ∷ 2 ∷ 5 ∷ 7 ∷ []) (0 ∷ 1 ∷ 0 ∷ 1 ∷ 2 ∷ 1 ∷ 2 ∷ []) (2 ∷ 4 ∷ 3 ∷ 6 ∷ 5 ∷ 3 ∷ 1 ∷ [])) lent).answer ≡ solved_of (Number 5) (counts None 7 3 3 5 0 0)
+pub whole : (solve 7 (matrix 3 3 (0 ∷ 2 ∷ 5 ∷ 7 ∷ []) (0 ∷ 1 ∷ 0 ∷ 1 ∷ 2 ∷ 1 ∷ 2 ∷ []) (2 ∷ 4 ∷ 3 ∷ 6 ∷ 5 ∷ 3 ∷ 1 ∷ [])) lent).answer ≡ solved_of (Some 5) (counts None 7 3 3 5 0 0)
 unfolding solve worth worth_of afresh S.counts_after from_matrix from_matrix_test short_test det unless det_test clean well_formed matrix_test rows_values_test values_test value_test rows_test row_test columns_test column_test shape_test size_test modulus_test refuse ◌else◌ lowest first_of part row is_prime largest is_modulus any start_test keeps determined valued take_anew take_matrix restarted started take_rows then_row next_row counted Runs.ended room_asked at_once room_test at_most places row_step took step_of stored counts_after step direct copied walked ended start divided climb at stopped accept subtract is_none pivot_at mark inverse least count keep Σ table value_in cols_of values_of upper with_u with_l kept_entries put_at ◌onto◌ cleared number none entries rows_of last_of product greater inverted inversions signed value_of u_full l_full pattern_full
 whole = refl
 
 -- (1,0,0), (1,0,0), (0,1,0): the determinant's rows end at the second, which is answered None, and the rank counts the third too
-pub dependent : (solve 7 (matrix 3 3 (0 ∷ 1 ∷ 2 ∷ 3 ∷ []) (0 ∷ 0 ∷ 1 ∷ []) (1 ∷ 1 ∷ 1 ∷ [])) lent).answer ≡ solved_of (Number 0) (counts None 7 3 2 2 0 0)
+pub dependent : (solve 7 (matrix 3 3 (0 ∷ 1 ∷ 2 ∷ 3 ∷ []) (0 ∷ 0 ∷ 1 ∷ []) (1 ∷ 1 ∷ 1 ∷ [])) lent).answer ≡ solved_of (Some 0) (counts None 7 3 2 2 0 0)
 unfolding solve worth worth_of afresh S.counts_after from_matrix from_matrix_test short_test det unless det_test clean well_formed matrix_test rows_values_test values_test value_test rows_test row_test columns_test column_test shape_test size_test modulus_test refuse ◌else◌ lowest first_of part row is_prime largest is_modulus any start_test keeps determined valued take_anew take_matrix restarted started take_rows then_row next_row counted Runs.ended room_asked at_once room_test at_most places row_step took step_of stored counts_after step direct copied walked ended start divided climb at stopped accept subtract is_none pivot_at mark inverse least count keep Σ table value_in cols_of values_of upper with_u with_l kept_entries put_at ◌onto◌ cleared number none entries rows_of last_of product greater inverted inversions signed value_of u_full l_full pattern_full
 dependent = refl
 
 -- (1,2), one row: no determinant is asked for
-pub oblong : (solve 7 (matrix 1 2 (0 ∷ 2 ∷ []) (0 ∷ 1 ∷ []) (1 ∷ 2 ∷ [])) lent).answer ≡ solved_of Unasked (counts None 7 2 1 2 0 0)
+pub oblong : (solve 7 (matrix 1 2 (0 ∷ 2 ∷ []) (0 ∷ 1 ∷ []) (1 ∷ 2 ∷ [])) lent).answer ≡ solved_of None (counts None 7 2 1 2 0 0)
 unfolding solve worth worth_of afresh S.counts_after from_matrix from_matrix_test short_test det unless det_test clean well_formed matrix_test rows_values_test values_test value_test rows_test row_test columns_test column_test shape_test size_test modulus_test refuse ◌else◌ lowest first_of part row is_prime largest is_modulus any start_test keeps determined valued take_anew take_matrix restarted started take_rows then_row next_row counted Runs.ended room_asked at_once room_test at_most places row_step took step_of stored counts_after step direct copied walked ended start divided climb at stopped accept subtract is_none pivot_at mark inverse least count keep Σ table value_in cols_of values_of upper with_u with_l kept_entries put_at ◌onto◌ cleared number none entries rows_of last_of product greater inverted inversions signed value_of u_full l_full pattern_full
 oblong = refl

@@ -1,5 +1,6 @@
 -- The two reductions, one after the other.
 -- Assumes nothing.
+use Rattle.std.specs.Prelude.{None}
 use mathlib.Core.Path.{◌≡◌, ap, ◌∙◌}
 use mathlib.Core.Bool.{false}
 use mathlib.Core.List.{List}
@@ -16,12 +17,10 @@ use Rattle.running.specs.Rows.{Night, night}
 use Rattle.anew.specs.Calls.{from_matrix}
 use Rattle.determinant.specs.Det.{det}
 use Rattle.determinant.specs.declared.Determined.{Determined}
-use Rattle.solving.specs.Solve.{worth_of, worth, counts_after, afresh, solved_of, solve}
-use Rattle.solving.specs.declared.Worth.{Worth}
-use Rattle.solving.specs.declared.Worth.TheVariants.{Unasked}
+use Rattle.solving.specs.Solve.{worth_of, worth, counts_after, afresh, solved_of, solve, Worth}
 
 module _ (p : ℕ) (a : Matrix) (o : Lists) where
-  pub worth_unasked : (a.nrows ≡ a.ncols → ⊥) → outcome Unasked o ≡ worth p a o
+  pub worth_unasked : (a.nrows ≡ a.ncols → ⊥) → outcome None o ≡ worth p a o
   unfolding worth
   worth_unasked e = rw (ne_eqb _ _ e, worth)
 

@@ -1,5 +1,6 @@
 -- Where the matrix is clean and there is plenty of room, `solve` comes to a determinant, takes all rows, and leaves a state: its U can be read.
 -- Assumes nothing.
+use Rattle.std.specs.Prelude.{None, Ok, Some}
 use mathlib.Core.Path.{◌≡◌, refl, sym, ap, subst, ◌∙◌}
 use mathlib.Core.Bool.{Bool, true, false, and-false}
 use Prim.Native.Nat.{ℕ, ◌≤◌}
@@ -11,7 +12,6 @@ use Rattle.sparse.specs.Lent.{Outcome, outcome}
 use Rattle.sparse.specs.Matrix.{Matrix}
 use Rattle.sparse.specs.Tests.{clean}
 use Rattle.sparse.specs.declared.Refusal.TheVariants.{NotSquare, Mismatch, Room}
-use Rattle.sparse.specs.declared.Tested.TheVariants.{Good}
 use Rattle.sparse.proofs.Firsts.{refuse_false, lowest_skip, lowest_last}
 use Rattle.state.specs.Fresh.{keeps, start_test}
 use Rattle.state.specs.Memory.{Memory, places}
@@ -29,13 +29,11 @@ use Rattle.plenty.proofs.Agains.{from_again}
 use Rattle.plenty.proofs.Calls.{from_matrix_settled, from_matrix_whole, det_lengths, det_whole}
 use Rattle.plenty.proofs.Lengths.{same_itself}
 use Rattle.plenty.proofs.Rooms.{plenty_same}
-use Rattle.solving.specs.Solve.{worth_of, worth, counts_after, afresh, solve}
-use Rattle.solving.specs.declared.Worth.{Worth}
-use Rattle.solving.specs.declared.Worth.TheVariants.{Number, Unasked}
+use Rattle.solving.specs.Solve.{worth_of, worth, counts_after, afresh, solve, Worth}
 
 -- a clean matrix, a place for each row and column, and plenty of room
 pub record Solvable (p : ℕ) (a : Matrix) (w : Night) : Type 0 where
-  pub rows : clean 65536 p a ≡ Good
+  pub rows : clean 65536 p a ≡ Ok tt
   pub dense : a.ncols ≤ length w.dense
   pub table : a.ncols ≤ length w.memory.pivots
   pub answers : a.nrows ≤ length w.answers
@@ -62,18 +60,18 @@ module _ (p : ℕ) (a : Matrix) (w : Night) (s : Solvable p a w) where
   unfolding places keeps
   l_first e = omega (arith, e, s.plenty.l_ptrs refl, held {n = length w.memory.l_ptrs} refl)
 
-  starts : (mode : Mode) → start_test mode w.memory.u_ptrs w.memory.l_ptrs ≡ Good
+  starts : (mode : Mode) → start_test mode w.memory.u_ptrs w.memory.l_ptrs ≡ Ok tt
   unfolding start_test
   starts mode = refuse_false _ Room (rw (ne_eqb (length w.memory.u_ptrs) 0 u_first, ne_eqb (length w.memory.l_ptrs) 0 l_first) (and-false (keeps mode)))
 
-  from_good : from_matrix_test p None a w.dense w.answers w.memory.u_ptrs w.memory.l_ptrs w.memory.pivots ≡ Good
+  from_good : from_matrix_test p None a w.dense w.answers w.memory.u_ptrs w.memory.l_ptrs w.memory.pivots ≡ Ok tt
   unfolding from_matrix_test short_test
   from_good =
       lowest_skip _ s.rows
       ∙ lowest_skip _ (refuse_false _ Mismatch (rw (le-ltb (length w.dense) a.ncols s.dense, le-ltb (length w.memory.pivots) a.ncols s.table, le-ltb (length w.answers) a.nrows s.answers)))
       ∙ sym (lowest_last (sym (starts None)))
 
-  det_good : a.nrows ≡ a.ncols → det_test p a w.dense w.memory.u_ptrs w.memory.l_ptrs w.memory.pivots ≡ Good
+  det_good : a.nrows ≡ a.ncols → det_test p a w.dense w.memory.u_ptrs w.memory.l_ptrs w.memory.pivots ≡ Ok tt
   unfolding det_test
   det_good square =
       lowest_skip _ s.rows
@@ -92,7 +90,7 @@ module _ (p : ℕ) (a : Matrix) (w : Night) (s : Solvable p a w) where
   second = night first.memory.memory w.answers first.memory.dense
 
   abbrev by : Bool → Outcome Worth Lists
-  by b = elim b [ true ↦ outcome (worth_of (det p a o).answer) (det p a o).memory | false ↦ outcome Unasked o ]
+  by b = elim b [ true ↦ outcome (worth_of (det p a o).answer) (det p a o).memory | false ↦ outcome None o ]
 
   -- as long as it came
   worth_lengths : SameLengths second w
@@ -103,11 +101,11 @@ module _ (p : ℕ) (a : Matrix) (w : Night) (s : Solvable p a w) where
       go true = let l = det_lengths p a o in record { memory = l.memory; answers = refl; dense = l.dense }
       go false = record { memory = same_itself w.memory; answers = refl; dense = refl }
 
-  again : from_matrix_test p None a second.dense second.answers second.memory.u_ptrs second.memory.l_ptrs second.memory.pivots ≡ Good
+  again : from_matrix_test p None a second.dense second.answers second.memory.u_ptrs second.memory.l_ptrs second.memory.pivots ≡ Ok tt
   again = from_again p a worth_lengths None ∙ from_good
 
   -- a determinant, where the matrix is square
-  pub solve_determined : a.nrows ≡ a.ncols → (v : ℕ) × ((solve p a w).answer.det ≡ Number v)
+  pub solve_determined : a.nrows ≡ a.ncols → (v : ℕ) × ((solve p a w).answer.det ≡ Some v)
   unfolding solve worth worth_of
   solve_determined square =
       let d = det_whole p a o (det_good square) s.plenty in

@@ -1,5 +1,5 @@
 -- The determinant, and then the rank and U from a fresh start: U mustn't come from the determinant's reduction, which ends at a None.
-use Rattle.std.specs.Prelude.{ℕ, true, false, eqb}
+use Rattle.std.specs.Prelude.{ℕ, true, false, eqb, None, Some, Option}
 use Rattle.sparse.specs.Lent.{Outcome, outcome}
 use Rattle.sparse.specs.Matrix.{Matrix}
 use Rattle.state.specs.Fresh.{counts}
@@ -13,21 +13,23 @@ use Rattle.anew.specs.Calls.{from_matrix}
 use Rattle.determinant.specs.Det.{det}
 use Rattle.determinant.specs.declared.Determined.{Determined}
 use Rattle.determinant.specs.declared.Determined.TheVariants.{Value, Stopped as Short, Refused as Unfit}
-use Rattle.solving.specs.declared.Worth.{Worth}
-use Rattle.solving.specs.declared.Worth.TheVariants.{Number, Unasked}
 use Rattle.solving.specs.declared.Solved.{Solved}
+
+-- the determinant, where it was asked for
+abbrev pub Worth : Type 0
+Worth = Option ℕ
 
 -- a determinant's number; a law says that the other two don't occur here
 unfoldable pub worth_of : Determined → Worth
-worth_of (Value v) = Number v.value
-worth_of (Short s) = Unasked
-worth_of (Unfit why) = Unasked
+worth_of (Value v) = Some v.value
+worth_of (Short s) = None
+worth_of (Unfit why) = None
 
 -- the determinant of a square matrix
 unfoldable pub worth : ℕ → Matrix → Lists → Outcome Worth Lists
 worth p a o = elim (eqb a.nrows a.ncols) [
   | true ↦ outcome (worth_of (det p a o).answer) (det p a o).memory
-  | false ↦ outcome Unasked o
+  | false ↦ outcome None o
 ]
 
 -- the counts after a call of many rows; a law says that all rows were taken

@@ -5,16 +5,9 @@ pub mod solve;
 
 use state::Counts;
 
-// A determinant; none is asked where the matrix isn't square.
-#[derive(Clone, Copy)]
-pub enum Worth {
-    Number(u32),
-    Unasked,
-}
-
-// The determinant, and the counts of the reduction whose U is in the lists.
+// The determinant, None where the matrix isn't square, and the counts of the reduction whose U is in the lists.
 #[derive(Clone, Copy)]
 pub struct Solved {
-    pub det: Worth,
+    pub det: Option<u32>,
     pub counts: Counts,
 }

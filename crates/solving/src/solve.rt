@@ -8,20 +8,20 @@ ghost use Rattle.running.specs.Rows.{night};
 ghost use Rattle.anew.specs.Calls.{from_matrix};
 ghost use Rattle.solving.specs.Solve;
 
-use crate::{Solved, Worth};
+use crate::Solved;
 use anew::from_matrix;
 use determinant::{Determined, det};
 use state::{Counts, Mode};
 use telling::Reduced;
 
 // A determinant's number.
-fn worth_of(determined: Determined) -> Worth
+fn worth_of(determined: Determined) -> Option<u32>
     ensures { result ≡ Solve.worth_of determined }
 {
     match determined {
-        Determined::Value(valued) => Worth::Number(valued.value),
-        Determined::Stopped(_) => Worth::Unasked,
-        Determined::Refused(_) => Worth::Unasked,
+        Determined::Value(valued) => Some(valued.value),
+        Determined::Stopped(_) => None,
+        Determined::Refused(_) => None,
     }
 }
 
@@ -41,11 +41,11 @@ pub fn worth(
     l_vals: &mut [u32],
     l_ptrs: &mut [usize],
     pivots: &mut [u32],
-) -> Worth
+) -> Option<u32>
     ensures { outcome result (lists (memory u_cols.new u_vals.new u_ptrs.new l_cols.new l_vals.new l_ptrs.new pivots.new) dense.new) ≡ Solve.worth p (matrix nrows ncols row_ptrs.now col_idcs.now values.now) (lists (memory u_cols.old u_vals.old u_ptrs.old l_cols.old l_vals.old l_ptrs.old pivots.old) dense.old) }
 {
     if nrows != ncols {
-        return Worth::Unasked;
+        return None;
     }
     let determined = det(
         p, nrows, ncols, row_ptrs, col_idcs, values, dense, u_cols, u_vals, u_ptrs, l_cols, l_vals,
@@ -61,10 +61,7 @@ fn counts_after(p: u32, ncols: u32, reduced: Reduced) -> Counts
     match reduced {
         Reduced::Taken(run) => run.counts,
         Reduced::Dependent(run) => run.counts,
-        Reduced::Stopped(stop) => {
-            let run = stop.run;
-            run.counts
-        }
+        Reduced::Stopped(stop) => stop.run.counts,
         Reduced::Refused(_) => Counts {
             mode: Mode::None,
             modulus: p,

@@ -1,5 +1,6 @@
 -- What tests that find nothing tell: a pointer for each row and one more, and each row within the entries.
 -- Assumes nothing.
+use Rattle.std.specs.Prelude.{Ok}
 use mathlib.Core.Path.{◌≡◌}
 use mathlib.Core.List.{List}
 use Prim.Native.Nat.{ℕ, ◌+◌, ◌≤◌, ◌<◌}
@@ -11,7 +12,6 @@ use Rattle.sparse.specs.Asks.{Pointers, Cut}
 use Rattle.sparse.specs.Matrix.{Matrix}
 use Rattle.sparse.specs.Tests.{size_test, shape_test, row_test, rows_test, matrix_test, well_formed}
 use Rattle.sparse.specs.declared.Refusal.TheVariants.{Size}
-use Rattle.sparse.specs.declared.Tested.TheVariants.{Good}
 use Rattle.sparse.proofs.Firsts.{refuse_good, neither, else_good, lowest_good, each_good}
 
 -- a part from a to b of n elements
@@ -29,14 +29,14 @@ pub record Small (limit rows cols entries : ℕ) : Type 0 where
   pub wide : cols ≤ 1024
   pub few : entries ≤ limit
 
-pub small : (limit rows cols entries : ℕ) → size_test limit rows cols entries ≡ Good → Small limit rows cols entries
+pub small : (limit rows cols entries : ℕ) → size_test limit rows cols entries ≡ Ok tt → Small limit rows cols entries
 unfolding size_test
 small limit rows cols entries e =
     let h = neither _ (ltb limit entries) (refuse_good _ Size e) in
     let sides = neither (ltb 1024 rows) (ltb 1024 cols) h.0 in
     record { high = ltb-false _ _ sides.0; wide = ltb-false _ _ sides.1; few = ltb-false _ _ h.1 }
 
-pub few_rows : (limit rows cols entries : ℕ) → size_test limit rows cols entries ≡ Good → rows ≤ 1024
+pub few_rows : (limit rows cols entries : ℕ) → size_test limit rows cols entries ≡ Ok tt → rows ≤ 1024
 few_rows limit rows cols entries e = (small limit rows cols entries e).high
 
 -- 3 finds nothing
@@ -46,7 +46,7 @@ pub record Shaped (m : Matrix) : Type 0 where
   pub starts : get_or m.row_ptrs 0 0 ≡ 0
   pub ends : get_or m.row_ptrs m.nrows 0 ≡ length m.values
 
-pub shaped : (m : Matrix) → shape_test m ≡ Good → Shaped m
+pub shaped : (m : Matrix) → shape_test m ≡ Ok tt → Shaped m
 unfolding shape_test
 shaped m e =
     let last = neither _ _ (refuse_good _ _ e) in
@@ -59,18 +59,18 @@ shaped m e =
       ends = eqb-true _ _ (not-false _ last.1);
     }
 
-pub pointers : (m : Matrix) → shape_test m ≡ Good → Pointers m.nrows m.row_ptrs
+pub pointers : (m : Matrix) → shape_test m ≡ Ok tt → Pointers m.nrows m.row_ptrs
 pointers m e = record { many = (shaped m e).many }
 
 -- 4 finds nothing in the row from a up to b
-row_within : (n : ℕ) (cols : List ℕ) (a b : ℕ) → row_test n cols a b ≡ Good → Within a b (length cols)
+row_within : (n : ℕ) (cols : List ℕ) (a b : ℕ) → row_test n cols a b ≡ Ok tt → Within a b (length cols)
 unfolding row_test
 row_within n cols a b e =
     let h = neither _ _ (refuse_good _ _ (else_good _ _ e).0) in
     record { rises = ltb-false b a h.0; fits = ltb-false (length cols) b h.1 }
 
 -- 3, 4 and 5 find nothing
-pub cut : (m : Matrix) → shape_test m ≡ Good → rows_test m.nrows m.ncols m.row_ptrs m.col_idcs ≡ Good → Cut m.nrows (length m.values) m.row_ptrs
+pub cut : (m : Matrix) → shape_test m ≡ Ok tt → rows_test m.nrows m.ncols m.row_ptrs m.col_idcs ≡ Ok tt → Cut m.nrows (length m.values) m.row_ptrs
 unfolding rows_test
 cut m s e =
     let at : (i : ℕ) → i < m.nrows → Within (get_or m.row_ptrs i 0) (get_or m.row_ptrs (i + 1) 0) (length m.col_idcs) = λ i l. row_within _ _ _ _ (each_good m.nrows _ e i l) in
@@ -85,18 +85,18 @@ pub record Laid (m : Matrix) : Type 0 where
   pub shape : Shaped m
   pub rows : Cut m.nrows (length m.values) m.row_ptrs
 
-pub laid : (m : Matrix) → shape_test m ≡ Good → rows_test m.nrows m.ncols m.row_ptrs m.col_idcs ≡ Good → Laid m
+pub laid : (m : Matrix) → shape_test m ≡ Ok tt → rows_test m.nrows m.ncols m.row_ptrs m.col_idcs ≡ Ok tt → Laid m
 laid m s e = record { shape = shaped m s; rows = cut m s e }
 
-pub formed_laid : (limit p : ℕ) (m : Matrix) → well_formed limit p m ≡ Good → Laid m
+pub formed_laid : (limit p : ℕ) (m : Matrix) → well_formed limit p m ≡ Ok tt → Laid m
 unfolding well_formed matrix_test
 formed_laid limit p m e =
     let h = lowest_good _ _ (lowest_good _ _ (lowest_good _ _ (lowest_good _ _ e).1).1).0 in
     laid m h.0 (lowest_good _ _ h.1).0
 
-pub formed_rows : (limit p : ℕ) (m : Matrix) → well_formed limit p m ≡ Good → rows_test m.nrows m.ncols m.row_ptrs m.col_idcs ≡ Good
+pub formed_rows : (limit p : ℕ) (m : Matrix) → well_formed limit p m ≡ Ok tt → rows_test m.nrows m.ncols m.row_ptrs m.col_idcs ≡ Ok tt
 unfolding well_formed matrix_test
 formed_rows limit p m e = (lowest_good _ _ (lowest_good _ _ (lowest_good _ _ (lowest_good _ _ (lowest_good _ _ e).1).1).0).1).0
 
-pub formed_cut : (limit p : ℕ) (m : Matrix) → well_formed limit p m ≡ Good → Cut m.nrows (length m.values) m.row_ptrs
+pub formed_cut : (limit p : ℕ) (m : Matrix) → well_formed limit p m ≡ Ok tt → Cut m.nrows (length m.values) m.row_ptrs
 formed_cut limit p m e = (formed_laid limit p m e).rows

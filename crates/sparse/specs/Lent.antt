@@ -1,10 +1,8 @@
 -- Lent memory, and what a call leaves there.
-use Rattle.std.specs.Prelude.{ℕ, ◌+◌, ◌||◌, List, ltb, length}
-use Rattle.sparse.specs.Refusals.{refuse}
+use Rattle.std.specs.Prelude.{ℕ, ◌+◌, ◌||◌, List, ltb, length, Err, Ok}
+use Rattle.sparse.specs.Refusals.{refuse, Tested}
 use Rattle.sparse.specs.declared.Refusal.{Refusal}
 use Rattle.sparse.specs.declared.Refusal.TheVariants.{Room}
-use Rattle.sparse.specs.declared.Tested.{Tested}
-use Rattle.sparse.specs.declared.Tested.TheVariants.{Good, Refused}
 
 -- what is lent for a matrix
 pub record Lent : Type 0 where
@@ -40,5 +38,5 @@ outcome r m = record { answer = r; memory = m }
 
 -- what a call comes to: a refusal leaves all lent memory as it came
 unfoldable pub unless : {A M : Type 0} → (Refusal → A) → Tested → M → Outcome A M → Outcome A M
-unless refused Good m o = o
-unless refused (Refused r) m o = outcome (refused r) m
+unless refused (Ok _) m o = o
+unless refused (Err r) m o = outcome (refused r) m

@@ -1,9 +1,8 @@
 -- A pivot table: for each column the row whose pivot stands there, or the mark.
 use Rattle.std.specs.Prelude.{ℕ, not, ◌||◌, List, leb, eqb, length, get_or}
 use Rattle.lists.specs.Find.{any, count, keep}
-use Rattle.sparse.specs.Refusals.{refuse}
+use Rattle.sparse.specs.Refusals.{refuse, Tested}
 use Rattle.sparse.specs.declared.Refusal.TheVariants.{Positions}
-use Rattle.sparse.specs.declared.Tested.{Tested}
 
 -- a column without a pivot
 unfoldable pub mark : ℕ

@@ -2,11 +2,10 @@
 use Rattle.std.specs.Prelude.{ℕ, ◌+◌, ◌-◌, not, ◌&&◌, ◌||◌, List, [], ◌∷◌, leb, ltb, eqb, length, get_or}
 use Rattle.field.specs.Prime.{is_modulus}
 use Rattle.sparse.specs.Matrix.{Matrix, matrix, part, row}
-use Rattle.sparse.specs.Refusals.{refuse, ◌else◌, lowest, first_of}
+use Rattle.sparse.specs.Refusals.{refuse, ◌else◌, lowest, first_of, Tested}
 use Rattle.sparse.specs.declared.inside.Clause.{Clause}
 use Rattle.sparse.specs.declared.inside.Clause.TheVariants.{Residue, Nonzero}
 use Rattle.sparse.specs.declared.Refusal.TheVariants.{Modulus, Size, Shape, Pointer, Column, Value, Zero}
-use Rattle.sparse.specs.declared.Tested.{Tested}
 
 -- 1: the modulus is no prime in 2..2,147,483,647
 unfoldable pub modulus_test : ℕ → Tested

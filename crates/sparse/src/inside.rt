@@ -5,10 +5,9 @@ ghost use Rattle.lists.specs.Onto.{◌onto◌};
 ghost use Rattle.sparse.specs.Asks.{Pointers, Cut};
 ghost use Rattle.sparse.specs.Lent.{lent, room_test};
 ghost use Rattle.sparse.specs.Matrix.{matrix};
-ghost use Rattle.sparse.specs.Refusals.{number};
 ghost use Rattle.sparse.specs.Tests.{modulus_test, size_test, shape_test, column_test, columns_test, row_test, rows_test, value_test, values_test, rows_values_test, matrix_test, well_formed, clean};
 
-use crate::{MAX_SIDE, Refusal, Tested};
+use crate::{MAX_SIDE, Refusal};
 use field::prime::is_modulus;
 
 // What 6 and 7 ask of a value.
@@ -19,29 +18,29 @@ pub enum Clause {
 }
 
 // 1: the modulus is a prime in 2..2,147,483,647.
-pub fn modulus_test(p: u32) -> Tested
+pub fn modulus_test(p: u32) -> Result<(), Refusal>
     ensures { result ≡ modulus_test p }
 {
     if is_modulus(p) {
-        return Tested::Good;
+        return Ok(());
     }
-    Tested::Refused(Refusal::Modulus)
+    Err(Refusal::Modulus)
 }
 
 // 2: at most 1,024 rows and columns, and at most `limit` entries.
-pub fn size_test(limit: usize, nrows: u32, ncols: u32, entries: usize) -> Tested
+pub fn size_test(limit: usize, nrows: u32, ncols: u32, entries: usize) -> Result<(), Refusal>
     ensures { result ≡ size_test limit nrows ncols entries }
 {
     if nrows > MAX_SIDE {
-        return Tested::Refused(Refusal::Size);
+        return Err(Refusal::Size);
     }
     if ncols > MAX_SIDE {
-        return Tested::Refused(Refusal::Size);
+        return Err(Refusal::Size);
     }
     if entries > limit {
-        return Tested::Refused(Refusal::Size);
+        return Err(Refusal::Size);
     }
-    Tested::Good
+    Ok(())
 }
 
 // 3: as many columns as values; a pointer for each row and one more, from 0 to the value count.
@@ -51,122 +50,111 @@ pub fn shape_test(
     row_ptrs: &[usize],
     col_idcs: &[u32],
     values: &[u32],
-) -> Tested
+) -> Result<(), Refusal>
     requires { nrows ≤ 1024 }
     ensures { result ≡ shape_test (matrix nrows ncols row_ptrs.now col_idcs.now values.now) }
 {
     if col_idcs.len() != values.len() {
-        return Tested::Refused(Refusal::Shape);
+        return Err(Refusal::Shape);
     }
     let pointers = nrows + 1;
     if row_ptrs.len() != pointers as usize {
-        return Tested::Refused(Refusal::Shape);
+        return Err(Refusal::Shape);
     }
     if row_ptrs[0] != 0 {
-        return Tested::Refused(Refusal::Shape);
+        return Err(Refusal::Shape);
     }
     if row_ptrs[nrows as usize] != values.len() {
-        return Tested::Refused(Refusal::Shape);
+        return Err(Refusal::Shape);
     }
-    Tested::Good
+    Ok(())
 }
 
 // 5 at entry k of a row: its column is below the column count and above the one before.
-fn column_test(ncols: u32, cols: &[u32], k: usize) -> Tested
+fn column_test(ncols: u32, cols: &[u32], k: usize) -> Result<(), Refusal>
     requires { k < length cols.now }
     ensures { result ≡ column_test ncols cols.now k }
 {
     let col = cols[k];
     if col >= ncols {
-        return Tested::Refused(Refusal::Column);
+        return Err(Refusal::Column);
     }
     if k == 0 {
-        return Tested::Good;
+        return Ok(());
     }
     if col <= cols[k - 1] {
-        return Tested::Refused(Refusal::Column);
+        return Err(Refusal::Column);
     }
-    Tested::Good
+    Ok(())
 }
 
 // 5 in a row.
-pub fn columns_test(ncols: u32, cols: &[u32]) -> Tested
+pub fn columns_test(ncols: u32, cols: &[u32]) -> Result<(), Refusal>
     ensures { result ≡ columns_test ncols cols.now }
 {
-    let mut k = 0;
-    while k < cols.len() {
-        let found = column_test(ncols, cols, k);
-        if let Tested::Refused(why) = found {
-            return Tested::Refused(why);
-        }
-        k += 1;
+    for k in 0..cols.len() {
+        column_test(ncols, cols, k)?;
     }
-    Tested::Good
+    Ok(())
 }
 
 // 4, then 5, in the row from `start` up to `stop`.
-fn row_test(ncols: u32, col_idcs: &[u32], start: usize, stop: usize) -> Tested
+fn row_test(ncols: u32, col_idcs: &[u32], start: usize, stop: usize) -> Result<(), Refusal>
     ensures { result ≡ row_test ncols col_idcs.now start stop }
 {
     if stop < start {
-        return Tested::Refused(Refusal::Pointer);
+        return Err(Refusal::Pointer);
     }
     if col_idcs.len() < stop {
-        return Tested::Refused(Refusal::Pointer);
+        return Err(Refusal::Pointer);
     }
     columns_test(ncols, &col_idcs[start..stop])
 }
 
 // 4 and 5: the first bad row decides.
-pub fn rows_test(nrows: u32, ncols: u32, row_ptrs: &[usize], col_idcs: &[u32]) -> Tested
+pub fn rows_test(
+    nrows: u32,
+    ncols: u32,
+    row_ptrs: &[usize],
+    col_idcs: &[u32],
+) -> Result<(), Refusal>
     requires { Pointers nrows row_ptrs.now }
     ensures { result ≡ rows_test nrows ncols row_ptrs.now col_idcs.now }
 {
-    let rows = nrows as usize;
-    let mut i = 0;
-    while i < rows {
-        let found = row_test(ncols, col_idcs, row_ptrs[i], row_ptrs[i + 1]);
-        if let Tested::Refused(why) = found {
-            return Tested::Refused(why);
-        }
-        i += 1;
+    for i in 0..nrows as usize {
+        row_test(ncols, col_idcs, row_ptrs[i], row_ptrs[i + 1])?;
     }
-    Tested::Good
+    Ok(())
 }
 
 // 6 or 7 of one value.
-fn value_test(clause: Clause, p: u32, value: u32) -> Tested
+fn value_test(clause: Clause, p: u32, value: u32) -> Result<(), Refusal>
     ensures { result ≡ value_test clause p value }
 {
     match clause {
         Clause::Residue => {
             if value >= p {
-                return Tested::Refused(Refusal::Value);
+                return Err(Refusal::Value);
             }
-            Tested::Good
+            Ok(())
         }
         Clause::Nonzero => {
             if value == 0 {
-                return Tested::Refused(Refusal::Zero);
+                return Err(Refusal::Zero);
             }
-            Tested::Good
+            Ok(())
         }
     }
 }
 
 // 6 or 7 in a row, a vector or the values of triplets.
-pub fn values_test(clause: Clause, p: u32, values: &[u32]) -> Tested
+pub fn values_test(clause: Clause, p: u32, values: &[u32]) -> Result<(), Refusal>
     ensures { result ≡ values_test clause p values.now }
 {
-    let mut k = 0;
-    while k < values.len() {
-        let found = value_test(clause, p, values[k]);
-        if let Tested::Refused(why) = found {
-            return Tested::Refused(why);
-        }
-        k += 1;
+    for value in values {
+        value_test(clause, p, *value)?;
     }
-    Tested::Good
+    Ok(())
 }
 
 // 6 or 7 in a matrix, row by row.
@@ -176,22 +164,16 @@ pub fn rows_values_test(
     nrows: u32,
     row_ptrs: &[usize],
     values: &[u32],
-) -> Tested
+) -> Result<(), Refusal>
     requires { Cut nrows (length values.now) row_ptrs.now }
     ensures { result ≡ rows_values_test clause p nrows row_ptrs.now values.now }
 {
-    let rows = nrows as usize;
-    let mut i = 0;
-    while i < rows {
+    for i in 0..nrows as usize {
         let start = row_ptrs[i];
         let stop = row_ptrs[i + 1];
-        let found = values_test(clause, p, &values[start..stop]);
-        if let Tested::Refused(why) = found {
-            return Tested::Refused(why);
-        }
-        i += 1;
+        values_test(clause, p, &values[start..stop])?;
     }
-    Tested::Good
+    Ok(())
 }
 
 // 3 to 6.
@@ -202,18 +184,12 @@ pub fn matrix_test(
     row_ptrs: &[usize],
     col_idcs: &[u32],
     values: &[u32],
-) -> Tested
+) -> Result<(), Refusal>
     requires { nrows ≤ 1024 }
     ensures { result ≡ matrix_test p (matrix nrows ncols row_ptrs.now col_idcs.now values.now) }
 {
-    let shape = shape_test(nrows, ncols, row_ptrs, col_idcs, values);
-    if let Tested::Refused(why) = shape {
-        return Tested::Refused(why);
-    }
-    let rows = rows_test(nrows, ncols, row_ptrs, col_idcs);
-    if let Tested::Refused(why) = rows {
-        return Tested::Refused(why);
-    }
+    shape_test(nrows, ncols, row_ptrs, col_idcs, values)?;
+    rows_test(nrows, ncols, row_ptrs, col_idcs)?;
     rows_values_test(Clause::Residue, p, nrows, row_ptrs, values)
 }
 
@@ -226,17 +202,11 @@ pub fn well_formed(
     row_ptrs: &[usize],
     col_idcs: &[u32],
     values: &[u32],
-) -> Tested
+) -> Result<(), Refusal>
     ensures { result ≡ well_formed limit p (matrix nrows ncols row_ptrs.now col_idcs.now values.now) }
 {
-    let modulus = modulus_test(p);
-    if let Tested::Refused(why) = modulus {
-        return Tested::Refused(why);
-    }
-    let size = size_test(limit, nrows, ncols, values.len());
-    if let Tested::Refused(why) = size {
-        return Tested::Refused(why);
-    }
+    modulus_test(p)?;
+    size_test(limit, nrows, ncols, values.len())?;
     matrix_test(p, nrows, ncols, row_ptrs, col_idcs, values)
 }
 
@@ -249,13 +219,10 @@ pub fn clean_rows(
     row_ptrs: &[usize],
     col_idcs: &[u32],
     values: &[u32],
-) -> Tested
+) -> Result<(), Refusal>
     ensures { result ≡ clean limit p (matrix nrows ncols row_ptrs.now col_idcs.now values.now) }
 {
-    let formed = well_formed(limit, p, nrows, ncols, row_ptrs, col_idcs, values);
-    if let Tested::Refused(why) = formed {
-        return Tested::Refused(why);
-    }
+    well_formed(limit, p, nrows, ncols, row_ptrs, col_idcs, values)?;
     rows_values_test(Clause::Nonzero, p, nrows, row_ptrs, values)
 }
 
@@ -266,19 +233,19 @@ pub fn room_test(
     row_ptrs: &[usize],
     col_idcs: &[u32],
     values: &[u32],
-) -> Tested
+) -> Result<(), Refusal>
     ensures { result ≡ room_test nrows entries (lent row_ptrs.now col_idcs.now values.now) }
 {
     if row_ptrs.len() <= nrows as usize {
-        return Tested::Refused(Refusal::Room);
+        return Err(Refusal::Room);
     }
     if col_idcs.len() < entries {
-        return Tested::Refused(Refusal::Room);
+        return Err(Refusal::Room);
     }
     if values.len() < entries {
-        return Tested::Refused(Refusal::Room);
+        return Err(Refusal::Room);
     }
-    Tested::Good
+    Ok(())
 }
 
 // Copies src to the front of dst.
@@ -286,32 +253,5 @@ pub fn copy(src: &[u32], dst: &mut [u32])
     requires { length src.now ≤ length dst.old }
     ensures { dst.new ≡ src.now onto dst.old }
 {
-    let mut i = 0;
-    while i < src.len() {
-        dst[i] = src[i];
-        i += 1;
-    }
-}
-
-// The table's number of a refusal.
-pub fn number_of(why: Refusal) -> u32
-    ensures { result ≡ number why }
-{
-    match why {
-        Refusal::Modulus => 1,
-        Refusal::Size => 2,
-        Refusal::Shape => 3,
-        Refusal::Pointer => 4,
-        Refusal::Column => 5,
-        Refusal::Value => 6,
-        Refusal::Zero => 7,
-        Refusal::Outside => 8,
-        Refusal::Order => 9,
-        Refusal::NotSquare => 10,
-        Refusal::Mismatch => 11,
-        Refusal::Positions => 12,
-        Refusal::State => 13,
-        Refusal::Room => 14,
-        Refusal::Text => 15,
-    }
+    dst[..src.len()].copy_from_slice(src);
 }

@@ -4,6 +4,12 @@
 // to row_ptrs[i + 1]. A vector is (len, idcs, values). The modulus p stands first in every call.
 #![tactic(auto)]
 
+ghost use Rattle.std.specs.Prelude.{◌≡◌};
+ghost use Rattle.sparse.specs.Refusals.{number};
+
+use std::error::Error;
+use std::fmt;
+
 pub mod inside;
 mod tests;
 
@@ -15,36 +21,38 @@ pub const MAX_SIDE: u32 = 1024;
 // The most entries of a matrix or vector.
 pub const MAX_ENTRIES: usize = 65536;
 
-// Why a call is refused; specs/Refusals.antt has the number of each. Only the tests make one.
-#[derive(Clone, Copy)]
+// Why a call is refused, by its number in the table: of several the lowest is given.
+#[derive(Clone, Copy, Debug, PartialEq, Eq)]
 pub enum Refusal {
-    Modulus,
-    Size,
-    Shape,
-    Pointer,
-    Column,
-    Value,
-    Zero,
-    Outside,
-    Order,
-    NotSquare,
-    Mismatch,
-    Positions,
-    State,
-    Room,
-    Text,
+    Modulus = 1,
+    Size = 2,
+    Shape = 3,
+    Pointer = 4,
+    Column = 5,
+    Value = 6,
+    Zero = 7,
+    Outside = 8,
+    Order = 9,
+    NotSquare = 10,
+    Mismatch = 11,
+    Positions = 12,
+    State = 13,
+    Room = 14,
+    Text = 15,
 }
 
-// What a test finds.
-#[derive(Clone, Copy)]
-pub enum Tested {
-    Good,
-    Refused(Refusal),
+impl From<Refusal> for u32 {
+    ghost from_gives = { λ why n. n ≡ number why };
+
+    fn from(why: Refusal) -> u32 {
+        why as u32
+    }
 }
 
-// What a call that writes a matrix answers: how many entries it has, or why there is none.
-#[derive(Clone, Copy)]
-pub enum Built {
-    Made(usize),
-    Refused(Refusal),
+impl fmt::Display for Refusal {
+    fn fmt<W: fmt::Write>(&self, f: &mut fmt::Formatter<W>) -> fmt::Result {
+        write!(f, "refused {}", u32::from(*self))
+    }
 }
+
+impl Error for Refusal {}

@@ -6,9 +6,9 @@ ghost use Rattle.sparse.specs.Tests.{well_formed, clean, well_formed_vector};
 use crate::inside::{
     Clause, clean_rows, columns_test, modulus_test, size_test, values_test, well_formed,
 };
-use crate::{MAX_ENTRIES, Refusal, Tested};
+use crate::{MAX_ENTRIES, Refusal};
 
-// Good where the matrix is well formed; else the lowest of 1 to 6 that applies.
+// Ok where the matrix is well formed; else the lowest of 1 to 6 that applies.
 pub fn try_from_csr(
     p: u32,
     nrows: u32,
@@ -16,13 +16,13 @@ pub fn try_from_csr(
     row_ptrs: &[usize],
     col_idcs: &[u32],
     values: &[u32],
-) -> Tested
+) -> Result<(), Refusal>
     ensures { result ≡ well_formed 65536 p (matrix nrows ncols row_ptrs.now col_idcs.now values.now) }
 {
     well_formed(MAX_ENTRIES, p, nrows, ncols, row_ptrs, col_idcs, values)
 }
 
-// Good where the matrix is clean; else the lowest of 1 to 7 that applies.
+// Ok where the matrix is clean; else the lowest of 1 to 7 that applies.
 pub fn try_from_csr_clean(
     p: u32,
     nrows: u32,
@@ -30,30 +30,21 @@ pub fn try_from_csr_clean(
     row_ptrs: &[usize],
     col_idcs: &[u32],
     values: &[u32],
-) -> Tested
+) -> Result<(), Refusal>
     ensures { result ≡ clean 65536 p (matrix nrows ncols row_ptrs.now col_idcs.now values.now) }
 {
     clean_rows(MAX_ENTRIES, p, nrows, ncols, row_ptrs, col_idcs, values)
 }
 
-// Good where the vector is well formed; else the lowest of 1, 2, 3, 5 and 6 that applies.
-pub fn try_from_csr_vector(p: u32, len: u32, idcs: &[u32], values: &[u32]) -> Tested
+// Ok where the vector is well formed; else the lowest of 1, 2, 3, 5 and 6 that applies.
+pub fn try_from_csr_vector(p: u32, len: u32, idcs: &[u32], values: &[u32]) -> Result<(), Refusal>
     ensures { result ≡ well_formed_vector 65536 p len idcs.now values.now }
 {
-    let modulus = modulus_test(p);
-    if let Tested::Refused(why) = modulus {
-        return Tested::Refused(why);
-    }
-    let size = size_test(MAX_ENTRIES, 1, len, values.len());
-    if let Tested::Refused(why) = size {
-        return Tested::Refused(why);
-    }
+    modulus_test(p)?;
+    size_test(MAX_ENTRIES, 1, len, values.len())?;
     if idcs.len() != values.len() {
-        return Tested::Refused(Refusal::Shape);
+        return Err(Refusal::Shape);
     }
-    let columns = columns_test(len, idcs);
-    if let Tested::Refused(why) = columns {
-        return Tested::Refused(why);
-    }
+    columns_test(len, idcs)?;
     values_test(Clause::Residue, p, values)
 }

@@ -1,5 +1,6 @@
 -- What U's test tells: part by part, and of the rows that pass each part.
 -- Assumes nothing.
+use Rattle.std.specs.Prelude.{Err, Ok, is_err}
 use mathlib.Core.Path.{◌≡◌, refl, sym, ap, ◌∙◌}
 use mathlib.Core.Bool.{Bool, true, false, cond, ◌||◌}
 use mathlib.Core.List.{List, [], ◌∷◌}
@@ -13,17 +14,15 @@ use lib.Seq.{length-take-le}
 use Rattle.lists.specs.Find.{any}
 use Rattle.lists.proofs.Find.{any_false}
 use Rattle.sparse.specs.Matrix.{Matrix}
-use Rattle.sparse.specs.Refusals.{refuse, ◌else◌, lowest}
+use Rattle.sparse.specs.Refusals.{refuse, ◌else◌, lowest, Tested}
 use Rattle.sparse.specs.Tests.{modulus_test, size_test, matrix_test, rows_values_test, well_formed, clean}
-use Rattle.sparse.specs.declared.Tested.{Tested}
-use Rattle.sparse.specs.declared.Tested.TheVariants.{Good, Refused}
 use Rattle.sparse.specs.declared.inside.Clause.TheVariants.{Nonzero}
 use Rattle.sparse.proofs.Cuts.{Laid, laid, row_in}
 use Rattle.sparse.proofs.Firsts.{lowest_good, lowest_skip, lowest_last, neither}
 use Rattle.meaning.proofs.RowColumns.{column_low}
 use Rattle.state.specs.Memory.{at_most, places}
 use Rattle.state.specs.Asks.{Seated, Headed, Sized, Opened}
-use Rattle.state.specs.State.{is_refused, headless, u_fault, u_lost, u_rows}
+use Rattle.state.specs.State.{headless, u_fault, u_lost, u_rows}
 
 -- the places that are used are there, and within the limit
 pub held : {r n : ℕ} → r ≡ at_most n → r ≤ n
@@ -47,39 +46,38 @@ pub taken_places : {r k : ℕ} (xs : List ℕ) → r ≡ at_most (length xs) →
 taken_places {k = k} xs e h = sym (length-take-le k xs (omega (arith, held e)))
 
 -- a test that doesn't refuse finds nothing
-pub not_refused : (t : Tested) → is_refused t ≡ false → t ≡ Good
-unfolding is_refused
-not_refused Good e = refl
-not_refused (Refused r) e = let z : ◌≡◌ {A = ℕ} 0 1 = cc in absurd (omega arith)
+pub not_refused : (t : Tested) → is_err t ≡ false → t ≡ Ok tt
+not_refused (Ok _) e = refl
+not_refused (Err r) e = let z : ◌≡◌ {A = ℕ} 0 1 = cc in absurd (omega arith)
 
 -- what code found of a test
-pub found : {s t : Tested} {b r : Bool} → s ≡ t → r ≡ is_refused s → r ≡ b → is_refused t ≡ b
-found q e h = ap is_refused (sym q) ∙ sym e ∙ h
+pub found : {s t : Tested} {b r : Bool} → s ≡ t → r ≡ is_err s → r ≡ b → is_err t ≡ b
+found q e h = ap is_err (sym q) ∙ sym e ∙ h
 
 -- the first of two tests, or the second
-lowest_two : (s t : Tested) → is_refused (lowest (s ∷ t ∷ [])) ≡ is_refused s || is_refused t
-unfolding is_refused lowest ◌else◌
-lowest_two Good Good = refl
-lowest_two Good (Refused r) = refl
-lowest_two (Refused r) t = refl
+lowest_two : (s t : Tested) → is_err (lowest (s ∷ t ∷ [])) ≡ is_err s || is_err t
+unfolding lowest ◌else◌
+lowest_two (Ok u) (Ok v) = refl
+lowest_two (Ok u) (Err r) = refl
+lowest_two (Err r) t = refl
 
 module _ {p : ℕ} {u : Matrix} {pivots : List ℕ} (s : Sized p u pivots) where
   -- within the limits: 1 and 2 find nothing
-  pub clean_parts : is_refused (clean 1048576 p u) ≡ is_refused (matrix_test p u) || is_refused (rows_values_test Nonzero p u.nrows u.row_ptrs u.values)
+  pub clean_parts : is_err (clean 1048576 p u) ≡ is_err (matrix_test p u) || is_err (rows_values_test Nonzero p u.nrows u.row_ptrs u.values)
   unfolding clean well_formed size_test refuse
   clean_parts =
       lowest_two (well_formed 1048576 p u) (rows_values_test Nonzero p u.nrows u.row_ptrs u.values)
-      ∙ ap (λ t. is_refused t || is_refused (rows_values_test Nonzero p u.nrows u.row_ptrs u.values))
+      ∙ ap (λ t. is_err t || is_err (rows_values_test Nonzero p u.nrows u.row_ptrs u.values))
       (lowest_skip _ s.modulus
       ∙ lowest_skip _ (rw (le-ltb 1024 u.nrows s.high, le-ltb 1024 u.ncols s.wide, le-ltb 1048576 (length u.values) s.few))
       ∙ sym (lowest_last refl))
 
-  lays : matrix_test p u ≡ Good → Laid u
+  lays : matrix_test p u ≡ Ok tt → Laid u
   unfolding matrix_test
   lays e = let h = lowest_good _ _ e in laid u h.0 (lowest_good _ _ h.1).0
 
   -- rows that pass 3 to 6
-  pub formed_seated : matrix_test p u ≡ Good → Seated u pivots
+  pub formed_seated : matrix_test p u ≡ Ok tt → Seated u pivots
   unfolding matrix_test
   formed_seated e =
       let h = lowest_good _ _ e in
@@ -117,8 +115,8 @@ lost_none rank fill cols vals ptrs e =
     }
 
 -- more rows than 2 allows aren't clean
-pub fault_high : (p : ℕ) (u : Matrix) (pivots : List ℕ) → modulus_test p ≡ Good → 1024 < u.nrows → u_fault p u pivots ≡ true
-unfolding u_fault clean well_formed size_test refuse lowest ◌else◌ is_refused
+pub fault_high : (p : ℕ) (u : Matrix) (pivots : List ℕ) → modulus_test p ≡ Ok tt → 1024 < u.nrows → u_fault p u pivots ≡ true
+unfolding u_fault clean well_formed size_test refuse lowest ◌else◌
 fault_high p u pivots m h = rw (m, lt-ltb 1024 u.nrows h)
 
 -- what U's test asks for

@@ -1,5 +1,6 @@
 -- A fresh start is a state.
 -- Assumes nothing.
+use Rattle.std.specs.Prelude.{Ok}
 use mathlib.Core.Path.{◌≡◌, refl, ap, ◌∙◌}
 use mathlib.Core.Bool.{true, false, cond}
 use mathlib.Core.List.{List, [], ◌∷◌}
@@ -19,12 +20,11 @@ use Rattle.sparse.specs.Matrix.{Matrix, matrix}
 use Rattle.sparse.specs.Pivots.{mark}
 use Rattle.sparse.specs.Refusals.{refuse, ◌else◌, lowest, first_of}
 use Rattle.sparse.specs.Tests.{modulus_test, size_test, shape_test, rows_test, rows_values_test, values_test, matrix_test, well_formed, clean}
-use Rattle.sparse.specs.declared.Tested.TheVariants.{Good}
 use Rattle.sparse.proofs.Cuts.{small}
 use Rattle.sparse.proofs.Firsts.{lowest_good}
 use Rattle.state.specs.Fresh.{Opening, counts, keeps, started, new_test}
 use Rattle.state.specs.Memory.{memory, at_most, places}
-use Rattle.state.specs.State.{is_refused, misplaced, u_fault, u_lost, u_rows, u_of, crooked, pattern_fault, values_fault, l_fault, state_test}
+use Rattle.state.specs.State.{misplaced, u_fault, u_lost, u_rows, u_of, crooked, pattern_fault, values_fault, l_fault, state_test}
 use Rattle.state.specs.declared.Mode.{Mode}
 use Rattle.state.specs.declared.Mode.TheVariants.{Full, Pattern, None}
 use Rattle.state.proofs.Starts.{startable, first_pointer, first_of_kept}
@@ -45,11 +45,11 @@ first_long : (xs : List ℕ) → 0 < length xs → length ((0 ∷ []) onto xs) �
 first_long xs h = length-onto (0 ∷ []) xs h
 
 -- no row, and so a clean U
-empty_clean : (p n : ℕ) (rest : List ℕ) → modulus_test p ≡ Good → n ≤ 1024 → clean 1048576 p (matrix 0 n (0 ∷ []) [] []) ≡ Good
+empty_clean : (p n : ℕ) (rest : List ℕ) → modulus_test p ≡ Ok tt → n ≤ 1024 → clean 1048576 p (matrix 0 n (0 ∷ []) [] []) ≡ Ok tt
 unfolding clean well_formed matrix_test size_test shape_test rows_test rows_values_test first_of refuse lowest ◌else◌
 empty_clean p n rest m h = rw (m, le-ltb 1024 n h)
 
-module _ (p n : ℕ) (mode : Mode) (o : Opening) (good : new_test p n mode o ≡ Good) (uc uv lc lv : List ℕ) where
+module _ (p n : ℕ) (mode : Mode) (o : Opening) (good : new_test p n mode o ≡ Ok tt) (uc uv lc lv : List ℕ) where
   abbrev after : Opening
   after = started mode n o
 
@@ -60,7 +60,7 @@ module _ (p n : ℕ) (mode : Mode) (o : Opening) (good : new_test p n mode o ≡
   unfolding new_test
   wide = (small 65536 0 n 0 (lowest_good _ _ (lowest_good _ _ good).1).0).wide
 
-  modulus : modulus_test p ≡ Good
+  modulus : modulus_test p ≡ Ok tt
   unfolding new_test
   modulus = (lowest_good _ _ good).0
 
@@ -76,7 +76,7 @@ module _ (p n : ℕ) (mode : Mode) (o : Opening) (good : new_test p n mode o ≡
   u_first = first_pointer mode o.u_ptrs o.l_ptrs (startable p n mode o good).room
 
   u_sound : u_fault p (u_rows n 0 0 uc uv ((0 ∷ []) onto o.u_ptrs)) (table n (λ i. mark) onto o.pivots) ≡ false
-  unfolding u_fault u_rows any is_refused ◌onto◌
+  unfolding u_fault u_rows any ◌onto◌
   u_sound = rw (empty_clean p n o.u_ptrs modulus wide) (no_pivot (matrix 0 n (0 ∷ []) [] []))
 
   pattern : keeps mode ≡ true → pattern_fault 0 0 0 lc ((0 ∷ []) onto o.l_ptrs) ≡ false
@@ -88,7 +88,7 @@ module _ (p n : ℕ) (mode : Mode) (o : Opening) (good : new_test p n mode o ≡
       l_first q = first_of_kept mode o.u_ptrs o.l_ptrs (startable p n mode o good).room q
 
   values : values_fault p 0 lv ≡ false
-  unfolding values_fault values_test first_of is_refused places
+  unfolding values_fault values_test first_of places
   values = rw (none_less (at_most (length lv)))
 
   l_sound : (m : Mode) → mode ≡ m → l_fault m (counts mode p n 0 0 0 0) lc lv (cond (keeps m) ((0 ∷ []) onto o.l_ptrs) o.l_ptrs) ≡ false
@@ -97,7 +97,7 @@ module _ (p n : ℕ) (mode : Mode) (o : Opening) (good : new_test p n mode o ≡
   l_sound Pattern e = pattern (ap keeps e)
   l_sound None e = refl
 
-  pub fresh_state : state_test (counts mode p n 0 0 0 0) (memory uc uv after.u_ptrs lc lv after.l_ptrs after.pivots) ≡ Good
+  pub fresh_state : state_test (counts mode p n 0 0 0 0) (memory uc uv after.u_ptrs lc lv after.l_ptrs after.pivots) ≡ Ok tt
   unfolding state_test started u_of u_lost places refuse
   fresh_state =
       rw (

@@ -4,8 +4,7 @@ use mathlib.Core.Path.{◌≡◌}
 use Prim.Native.Nat.{ℕ}
 use Rattle.lists.proofs.Only.{only}
 use Rattle.sparse.specs.Lent.{Outcome}
-use Rattle.state.specs.Fresh.{Opening, new}
-use Rattle.state.specs.declared.Fresh.{Fresh}
+use Rattle.state.specs.Fresh.{Opening, new, Fresh}
 use Rattle.state.specs.declared.Mode.{Mode}
 
 pub new_only : (p n : ℕ) (mode : Mode) (o : Opening) {s t : Outcome Fresh Opening} → s ≡ new p n mode o → t ≡ new p n mode o → s ≡ t

@@ -1,5 +1,6 @@
 -- A fresh start: what room gives, and what is then written.
 -- Assumes nothing.
+use Rattle.std.specs.Prelude.{Ok}
 use mathlib.Core.Path.{◌≡◌, refl, sym, ap, ◌∙◌}
 use mathlib.Core.Bool.{Bool, true, false, ◌&&◌}
 use mathlib.Core.List.{List, [], ◌∷◌}
@@ -12,7 +13,6 @@ use Rattle.lists.specs.Onto.{◌onto◌}
 use Rattle.lists.specs.Table.{table}
 use Rattle.lists.proofs.Ontos.{onto_more}
 use Rattle.sparse.specs.Pivots.{mark}
-use Rattle.sparse.specs.declared.Tested.TheVariants.{Good}
 use Rattle.sparse.proofs.Firsts.{neither, refuse_good, lowest_good}
 use Rattle.state.specs.Asks.{Startable}
 use Rattle.state.specs.Fresh.{Opening, opening, keeps, start_test, started, new_test}
@@ -22,7 +22,7 @@ use Rattle.state.specs.declared.Mode.{Mode}
 filled : (xs : List ℕ) → eqb (length xs) 0 ≡ false → 0 < length xs
 filled xs e = let ne : length xs ≡ 0 → ⊥ = eqb-false (length xs) 0 e in omega arith
 
-module _ (mode : Mode) (u l : List ℕ) (good : start_test mode u l ≡ Good) where
+module _ (mode : Mode) (u l : List ℕ) (good : start_test mode u l ≡ Ok tt) where
   pub first_pointer : 0 < length u
   unfolding start_test
   first_pointer = filled u (neither _ _ (refuse_good _ _ good)).0
@@ -46,7 +46,7 @@ module _ (n : ℕ) (mode : Mode) (u l pivots : List ℕ) (s : Startable n mode (
   started_bare k = rw (k, set_first u (first_pointer mode u l s.room), e)
 
 -- what the tests of a fresh start give
-pub startable : (p n : ℕ) (mode : Mode) (o : Opening) → new_test p n mode o ≡ Good → Startable n mode o
+pub startable : (p n : ℕ) (mode : Mode) (o : Opening) → new_test p n mode o ≡ Ok tt → Startable n mode o
 unfolding new_test
 startable p n mode o e =
     let h = lowest_good _ _ (lowest_good _ _ (lowest_good _ _ e).1).1 in

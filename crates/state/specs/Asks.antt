@@ -1,9 +1,8 @@
 -- What the functions of this crate ask of their arguments: what the tests before them have shown.
-use Rattle.std.specs.Prelude.{◌≡◌, ℕ, ◌≤◌, ◌<◌, List, length, get_or}
+use Rattle.std.specs.Prelude.{◌≡◌, ℕ, ◌≤◌, ◌<◌, List, length, get_or, Ok}
 use Rattle.sparse.specs.Asks.{Cut}
 use Rattle.sparse.specs.Matrix.{Matrix}
 use Rattle.sparse.specs.Tests.{modulus_test}
-use Rattle.sparse.specs.declared.Tested.TheVariants.{Good}
 use Rattle.state.specs.Fresh.{Opening, start_test}
 use Rattle.state.specs.declared.Mode.{Mode}
 
@@ -31,7 +30,7 @@ pub record HeadedColumn (u : Matrix) (pivots : List ℕ) (j : ℕ) : Type 0 wher
 
 -- by 1, 2 and 11: a modulus, sizes within the limits, and a place in the pivot table for each column
 pub record Sized (p : ℕ) (u : Matrix) (pivots : List ℕ) : Type 0 where
-  pub modulus : modulus_test p ≡ Good
+  pub modulus : modulus_test p ≡ Ok tt
   pub high : u.nrows ≤ 1024
   pub wide : u.ncols ≤ 1024
   pub few : length u.values ≤ 1048576
@@ -39,11 +38,11 @@ pub record Sized (p : ℕ) (u : Matrix) (pivots : List ℕ) : Type 0 where
 
 -- the same of the record of counts
 pub record Opened (p n : ℕ) (pivots : List ℕ) : Type 0 where
-  pub modulus : modulus_test p ≡ Good
+  pub modulus : modulus_test p ≡ Ok tt
   pub wide : n ≤ 1024
   pub table : n ≤ length pivots
 
 -- by 11 and 14: a place for each mark and for each first pointer
 pub record Startable (n : ℕ) (mode : Mode) (o : Opening) : Type 0 where
   pub table : n ≤ length o.pivots
-  pub room : start_test mode o.u_ptrs o.l_ptrs ≡ Good
+  pub room : start_test mode o.u_ptrs o.l_ptrs ≡ Ok tt

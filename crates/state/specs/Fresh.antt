@@ -1,18 +1,20 @@
 -- A fresh start: counts and first pointers 0, and no pivot.
-use Rattle.std.specs.Prelude.{ℕ, Bool, true, false, ◌&&◌, ◌||◌, cond, List, [], ◌∷◌, ltb, eqb, length}
+use Rattle.std.specs.Prelude.{ℕ, Bool, true, false, ◌&&◌, ◌||◌, cond, List, [], ◌∷◌, ltb, eqb, length, Err, Ok, Result}
 use Rattle.lists.specs.Onto.{◌onto◌}
 use Rattle.lists.specs.Table.{table}
 use Rattle.sparse.specs.Lent.{Outcome, outcome, unless}
 use Rattle.sparse.specs.Pivots.{mark}
-use Rattle.sparse.specs.Refusals.{refuse, lowest}
+use Rattle.sparse.specs.Refusals.{refuse, lowest, Tested}
 use Rattle.sparse.specs.Tests.{modulus_test, size_test}
 use Rattle.sparse.specs.declared.Refusal.TheVariants.{Mismatch, Room}
-use Rattle.sparse.specs.declared.Tested.{Tested}
 use Rattle.state.specs.declared.Counts.{Counts}
-use Rattle.state.specs.declared.Fresh.{Fresh}
-use Rattle.state.specs.declared.Fresh.TheVariants.{Opened, Refused as Unopened}
 use Rattle.state.specs.declared.Mode.{Mode}
 use Rattle.state.specs.declared.Mode.TheVariants.{Full, Pattern, None}
+use Rattle.sparse.specs.declared.Refusal.{Refusal}
+
+-- the counts of an empty reducer, or a refusal
+abbrev pub Fresh : Type 0
+Fresh = Result Counts Refusal
 
 -- the record of counts
 abbrev pub counts : Mode → ℕ → ℕ → ℕ → ℕ → ℕ → ℕ → Counts
@@ -53,4 +55,4 @@ new_test p n mode o =
 
 -- refused, or opened with counts of 0
 unfoldable pub new : ℕ → ℕ → Mode → Opening → Outcome Fresh Opening
-new p n mode o = unless Unopened (new_test p n mode o) o (outcome (Opened (counts mode p n 0 0 0 0)) (started mode n o))
+new p n mode o = unless Err (new_test p n mode o) o (outcome (Ok (counts mode p n 0 0 0 0)) (started mode n o))

@@ -1,8 +1,7 @@
 -- Room for one row more: what 14 is given for otherwise.
 use Rattle.std.specs.Prelude.{ℕ, ◌+◌, ◌-◌, Bool, false, ◌||◌, List, leb, ltb}
-use Rattle.sparse.specs.Refusals.{refuse}
+use Rattle.sparse.specs.Refusals.{refuse, Tested}
 use Rattle.sparse.specs.declared.Refusal.TheVariants.{Room}
-use Rattle.sparse.specs.declared.Tested.{Tested}
 use Rattle.state.specs.Memory.{Memory, places}
 use Rattle.state.specs.declared.Counts.{Counts}
 use Rattle.state.specs.declared.Mode.{Mode}

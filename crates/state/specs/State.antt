@@ -1,23 +1,16 @@
 -- When reducer memory is a state: what 13 is given for otherwise.
-use Rattle.std.specs.Prelude.{ℕ, ◌+◌, Bool, true, false, not, ◌&&◌, ◌||◌, List, leb, ltb, eqb, get_or, take}
+use Rattle.std.specs.Prelude.{ℕ, ◌+◌, Bool, not, ◌&&◌, ◌||◌, List, leb, ltb, eqb, get_or, take, is_err}
 use Rattle.lists.specs.Find.{any}
 use Rattle.sparse.specs.Matrix.{Matrix, matrix}
 use Rattle.sparse.specs.Pivots.{mark}
-use Rattle.sparse.specs.Refusals.{refuse}
+use Rattle.sparse.specs.Refusals.{refuse, Tested}
 use Rattle.sparse.specs.Tests.{clean, values_test}
 use Rattle.sparse.specs.declared.Refusal.TheVariants.{State}
-use Rattle.sparse.specs.declared.Tested.{Tested}
-use Rattle.sparse.specs.declared.Tested.TheVariants.{Good, Refused}
 use Rattle.sparse.specs.declared.inside.Clause.TheVariants.{Residue, Nonzero}
 use Rattle.state.specs.Memory.{Memory, places}
 use Rattle.state.specs.declared.Counts.{Counts}
 use Rattle.state.specs.declared.Mode.{Mode}
 use Rattle.state.specs.declared.Mode.TheVariants.{Full, Pattern, None}
-
--- a test that refuses
-unfoldable pub is_refused : Tested → Bool
-is_refused Good = false
-is_refused (Refused r) = true
 
 -- the column of row r's head, its first entry
 unfoldable pub head_of : Matrix → ℕ → ℕ
@@ -36,7 +29,7 @@ misplaced u pivots j = not (eqb (get_or pivots j 0) mark) && (leb u.nrows (get_o
 
 -- U isn't clean, or the pivot table isn't that of its heads
 unfoldable pub u_fault : ℕ → Matrix → List ℕ → Bool
-u_fault p u pivots = is_refused (clean 1048576 p u) || any u.nrows (headless u pivots) || any u.ncols (misplaced u pivots)
+u_fault p u pivots = is_err (clean 1048576 p u) || any u.nrows (headless u pivots) || any u.ncols (misplaced u pivots)
 
 -- U's rows or entries pass their places
 unfoldable pub u_lost : ℕ → ℕ → List ℕ → List ℕ → List ℕ → Bool
@@ -62,8 +55,8 @@ pattern_fault rank rows fill cols ptrs =
 unfoldable pub values_fault : ℕ → ℕ → List ℕ → Bool
 values_fault p fill vals =
     ltb (places vals) fill
-    || is_refused (values_test Residue p (take fill vals))
-    || is_refused (values_test Nonzero p (take fill vals))
+    || is_err (values_test Residue p (take fill vals))
+    || is_err (values_test Nonzero p (take fill vals))
 
 -- L, by what is kept of it
 unfoldable pub l_fault : Mode → Counts → List ℕ → List ℕ → List ℕ → Bool

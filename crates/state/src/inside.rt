@@ -3,12 +3,12 @@ ghost use Rattle.std.specs.Prelude.{◌≡◌, ◌-◌};
 ghost use Rattle.state.specs.Asks.{Opened};
 ghost use Rattle.state.specs.Memory.{memory, at_most};
 ghost use Rattle.state.specs.Room.{u_full, pattern_full, l_full, room_test};
-ghost use Rattle.state.specs.State.{is_refused, state_test};
+ghost use Rattle.state.specs.State.{state_test};
 
 use crate::multipliers::l_fault;
 use crate::rows::u_unsound;
 use crate::{Counts, Mode};
-use sparse::{Refusal, Tested};
+use sparse::Refusal;
 
 // The most places of a slice that U and L use.
 pub const MAX_PLACES: usize = 1048576;
@@ -17,20 +17,7 @@ pub const MAX_PLACES: usize = 1048576;
 pub fn places(len: usize) -> usize
     ensures { result ≡ at_most len }
 {
-    if len > MAX_PLACES {
-        return MAX_PLACES;
-    }
-    len
-}
-
-// Whether a test refuses.
-pub fn is_refused(found: Tested) -> bool
-    ensures { result ≡ is_refused found }
-{
-    if let Tested::Refused(_) = found {
-        return true;
-    }
-    false
+    len.min(MAX_PLACES)
 }
 
 // 13: whether the memory is a state.
@@ -43,7 +30,7 @@ pub fn state_test(
     l_vals: &[u32],
     l_ptrs: &[usize],
     pivots: &[u32],
-) -> Tested
+) -> Result<(), Refusal>
     requires { Opened counts.modulus counts.ncols pivots.now }
     ensures { result ≡ state_test counts (memory u_cols.now u_vals.now u_ptrs.now l_cols.now l_vals.now l_ptrs.now pivots.now) }
 {
@@ -52,23 +39,19 @@ pub fn state_test(
     let rank = counts.rank;
     let fill = counts.u_fill;
     if u_unsound(p, ncols, rank, fill, u_cols, u_vals, u_ptrs, pivots) {
-        return Tested::Refused(Refusal::State);
+        return Err(Refusal::State);
     }
     if l_fault(counts, l_cols, l_vals, l_ptrs) {
-        return Tested::Refused(Refusal::State);
+        return Err(Refusal::State);
     }
-    Tested::Good
+    Ok(())
 }
 
 // How many places of a slice are free.
 pub fn free(len: usize, fill: usize) -> usize
     ensures { result ≡ at_most len - fill }
 {
-    let used = places(len);
-    if used < fill {
-        return 0;
-    }
-    used - fill
+    places(len).saturating_sub(fill)
 }
 
 // 14: whether there is room for one row more.
@@ -81,19 +64,19 @@ pub fn room_test(
     l_vals: &[u32],
     l_ptrs: &[usize],
     pivots: &[u32],
-) -> Tested
+) -> Result<(), Refusal>
     ensures { result ≡ room_test counts (memory u_cols.now u_vals.now u_ptrs.now l_cols.now l_vals.now l_ptrs.now pivots.now) }
 {
     let ncols = counts.ncols;
     let rank = counts.rank;
     let fill = counts.u_fill;
     if u_full(ncols, rank, fill, u_cols, u_vals, u_ptrs) {
-        return Tested::Refused(Refusal::Room);
+        return Err(Refusal::Room);
     }
     if l_full(counts, l_cols, l_vals, l_ptrs) {
-        return Tested::Refused(Refusal::Room);
+        return Err(Refusal::Room);
     }
-    Tested::Good
+    Ok(())
 }
 
 // Whether U has fewer free entry places than columns, or no free row pointer. No sum is formed, so

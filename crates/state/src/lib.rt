@@ -9,7 +9,6 @@ pub mod multipliers;
 mod rows;
 pub mod start;
 
-use sparse::Refusal;
 pub use start::new;
 
 // What is kept of L: columns and values, columns alone, or nothing.
@@ -30,11 +29,4 @@ pub struct Counts {
     pub u_fill: usize,
     pub l_rows: usize,
     pub l_fill: usize,
-}
-
-// What a fresh start answers.
-#[derive(Clone, Copy)]
-pub enum Fresh {
-    Opened(Counts),
-    Refused(Refusal),
 }

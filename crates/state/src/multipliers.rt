@@ -3,7 +3,7 @@ ghost use Rattle.std.specs.Prelude.{◌≡◌, ◌+◌, ◌≤◌, ◌<◌, leb,
 ghost use Rattle.lists.specs.Find.{any};
 ghost use Rattle.state.specs.State.{crooked, pattern_fault, values_fault, l_fault};
 
-use crate::inside::{is_refused, places};
+use crate::inside::places;
 use crate::{Counts, Mode};
 use sparse::inside::{Clause, values_test};
 
@@ -56,10 +56,10 @@ fn values_fault(p: u32, fill: usize, vals: &[u32]) -> bool
     if places(vals.len()) < fill {
         return true;
     }
-    if is_refused(values_test(Clause::Residue, p, &vals[..fill])) {
+    if values_test(Clause::Residue, p, &vals[..fill]).is_err() {
         return true;
     }
-    is_refused(values_test(Clause::Nonzero, p, &vals[..fill]))
+    values_test(Clause::Nonzero, p, &vals[..fill]).is_err()
 }
 
 // Whether pointers don't start at 0, fall, or don't end at the fill.
@@ -80,26 +80,12 @@ fn some_fall(rows: usize, ptrs: &[usize]) -> bool
     requires { rows < length ptrs.now }
     ensures { result ≡ any rows (λ i. ltb (get_or ptrs.now (i + 1) 0) (get_or ptrs.now i 0)) }
 {
-    let mut i = 0;
-    while i < rows {
-        if ptrs[i + 1] < ptrs[i] {
-            return true;
-        }
-        i += 1;
-    }
-    false
+    !ptrs[..=rows].is_sorted()
 }
 
 fn some_above(rank: usize, fill: usize, cols: &[u32]) -> bool
     requires { fill ≤ length cols.now }
     ensures { result ≡ any fill (λ k. leb rank (get_or cols.now k 0)) }
 {
-    let mut k = 0;
-    while k < fill {
-        if cols[k] as usize >= rank {
-            return true;
-        }
-        k += 1;
-    }
-    false
+    cols[..fill].iter().any(|col| *col as usize >= rank)
 }

@@ -5,7 +5,7 @@ ghost use Rattle.sparse.specs.Matrix.{matrix};
 ghost use Rattle.state.specs.Asks.{Seated, SeatedRow, Headed, HeadedColumn, Sized, Opened};
 ghost use Rattle.state.specs.State.{headless, misplaced, u_fault, u_lost, u_rows};
 
-use crate::inside::{is_refused, places};
+use crate::inside::places;
 use pivots::inside::MARK;
 use sparse::MAX_SIDE;
 use sparse::inside::{Clause, matrix_test, rows_values_test};
@@ -69,10 +69,10 @@ fn u_fault(
     requires { Sized p (matrix nrows ncols ptrs.now cols.now vals.now) pivots.now }
     ensures { result ≡ u_fault p (matrix nrows ncols ptrs.now cols.now vals.now) pivots.now }
 {
-    if is_refused(matrix_test(p, nrows, ncols, ptrs, cols, vals)) {
+    if matrix_test(p, nrows, ncols, ptrs, cols, vals).is_err() {
         return true;
     }
-    if is_refused(rows_values_test(Clause::Nonzero, p, nrows, ptrs, vals)) {
+    if rows_values_test(Clause::Nonzero, p, nrows, ptrs, vals).is_err() {
         return true;
     }
     if some_headless(nrows, ncols, cols, vals, ptrs, pivots) {
@@ -93,12 +93,10 @@ fn some_headless(
     requires { Seated (matrix nrows ncols ptrs.now cols.now vals.now) pivots.now }
     ensures { result ≡ any nrows (headless (matrix nrows ncols ptrs.now cols.now vals.now) pivots.now) }
 {
-    let mut row = 0;
-    while row < nrows {
+    for row in 0..nrows {
         if is_headless(nrows, ncols, cols, vals, ptrs, pivots, row) {
             return true;
         }
-        row += 1;
     }
     false
 }
@@ -138,12 +136,10 @@ fn some_misplaced(
     requires { Headed (matrix nrows ncols ptrs.now cols.now vals.now) pivots.now }
     ensures { result ≡ any ncols (misplaced (matrix nrows ncols ptrs.now cols.now vals.now) pivots.now) }
 {
-    let mut col = 0;
-    while col < ncols {
+    for col in 0..ncols {
         if is_misplaced(nrows, ncols, cols, vals, ptrs, pivots, col) {
             return true;
         }
-        col += 1;
     }
     false
 }

@@ -7,10 +7,10 @@ ghost use Rattle.sparse.specs.Pivots.{mark};
 ghost use Rattle.state.specs.Asks.{Startable};
 ghost use Rattle.state.specs.Fresh.{counts, keeps, opening, start_test, started, new_test};
 
-use crate::{Counts, Fresh, Mode};
+use crate::{Counts, Mode};
 use pivots::inside::MARK;
 use sparse::inside::{modulus_test, size_test};
-use sparse::{MAX_ENTRIES, Refusal, Tested};
+use sparse::{MAX_ENTRIES, Refusal};
 
 // Opens a reducer of so many columns; or the lowest of 1, 2, 11 and 14 that applies, and the memory as
 // it came. What the memory held is never read.
@@ -21,15 +21,12 @@ pub fn new(
     u_ptrs: &mut [usize],
     l_ptrs: &mut [usize],
     pivots: &mut [u32],
-) -> Fresh
+) -> Result<Counts, Refusal>
     ensures { outcome result (opening u_ptrs.new l_ptrs.new pivots.new) ≡ Rattle.state.specs.Fresh.new p ncols mode (opening u_ptrs.old l_ptrs.old pivots.old) }
 {
-    let found = new_test(p, ncols, mode, u_ptrs, l_ptrs, pivots);
-    if let Tested::Refused(why) = found {
-        return Fresh::Refused(why);
-    }
+    new_test(p, ncols, mode, u_ptrs, l_ptrs, pivots)?;
     start(ncols, mode, u_ptrs, l_ptrs, pivots);
-    Fresh::Opened(fresh_counts(p, ncols, mode))
+    Ok(fresh_counts(p, ncols, mode))
 }
 
 // The counts of a fresh start.
@@ -54,37 +51,31 @@ fn new_test(
     u_ptrs: &[usize],
     l_ptrs: &[usize],
     pivots: &[u32],
-) -> Tested
+) -> Result<(), Refusal>
     ensures { result ≡ new_test p ncols mode (opening u_ptrs.now l_ptrs.now pivots.now) }
 {
-    let modulus = modulus_test(p);
-    if let Tested::Refused(why) = modulus {
-        return Tested::Refused(why);
-    }
-    let size = size_test(MAX_ENTRIES, 0, ncols, 0);
-    if let Tested::Refused(why) = size {
-        return Tested::Refused(why);
-    }
+    modulus_test(p)?;
+    size_test(MAX_ENTRIES, 0, ncols, 0)?;
     if pivots.len() < ncols as usize {
-        return Tested::Refused(Refusal::Mismatch);
+        return Err(Refusal::Mismatch);
     }
     start_test(mode, u_ptrs, l_ptrs)
 }
 
 // 14 at the fresh start: a place for the first pointer of U, and of a kept L.
-pub fn start_test(mode: Mode, u_ptrs: &[usize], l_ptrs: &[usize]) -> Tested
+pub fn start_test(mode: Mode, u_ptrs: &[usize], l_ptrs: &[usize]) -> Result<(), Refusal>
     ensures { result ≡ start_test mode u_ptrs.now l_ptrs.now }
 {
     if u_ptrs.len() == 0 {
-        return Tested::Refused(Refusal::Room);
+        return Err(Refusal::Room);
     }
     if l_ptrs.len() > 0 {
-        return Tested::Good;
+        return Ok(());
     }
     if keeps_l(mode) {
-        return Tested::Refused(Refusal::Room);
+        return Err(Refusal::Room);
     }
-    Tested::Good
+    Ok(())
 }
 
 // Whether an L is kept.
@@ -115,9 +106,5 @@ fn mark_columns(ncols: u32, pivots: &mut [u32])
     requires { ncols ≤ length pivots.old }
     ensures { pivots.new ≡ table ncols (λ j. mark) onto pivots.old }
 {
-    let mut col = 0;
-    while col < ncols {
-        pivots[col as usize] = MARK;
-        col += 1;
-    }
+    pivots[..ncols as usize].fill(MARK);
 }

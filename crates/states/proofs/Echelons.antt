@@ -1,5 +1,6 @@
 -- Memory that is a state: U's rows are in echelon form, and each pivot's row has its head there.
 -- Assumes nothing.
+use Rattle.std.specs.Prelude.{Ok, is_err}
 use mathlib.Core.Path.{◌≡◌, refl, sym, ap, ap₂, subst, ◌∙◌}
 use mathlib.Core.Bool.{Bool, false, not, ◌&&◌, ◌||◌}
 use mathlib.Core.List.{List}
@@ -14,14 +15,13 @@ use Rattle.lists.proofs.Find.{any_false}
 use Rattle.sparse.specs.Matrix.{Matrix, matrix, part, row}
 use Rattle.sparse.specs.Pivots.{mark}
 use Rattle.sparse.specs.Tests.{clean, well_formed}
-use Rattle.sparse.specs.declared.Tested.TheVariants.{Good}
 use Rattle.sparse.proofs.Cuts.{Laid, formed_laid, formed_rows, row_in, Within}
 use Rattle.sparse.proofs.Firsts.{neither, lowest_good}
 use Rattle.meaning.proofs.Parts.{length_part, get_d_part}
 use Rattle.meaning.proofs.RowColumns.{row_climbs, column_low}
 use Rattle.meaning.proofs.Values.{Climbs}
 use Rattle.state.specs.Asks.{Opened}
-use Rattle.state.specs.State.{is_refused, head_of, headless, misplaced, u_fault, u_lost, u_rows}
+use Rattle.state.specs.State.{head_of, headless, misplaced, u_fault, u_lost, u_rows}
 use Rattle.state.proofs.Faults.{Held, lost_none, not_refused}
 use Rattle.walk.specs.Asks.{PivotRow, Pivoted}
 use Rattle.walk.specs.Step.{upper, pivot_at}
@@ -45,14 +45,14 @@ module _ (p n rank fill : ℕ) (cols vals ptrs pivots : List ℕ) (o : Opened p 
   abbrev u : Matrix
   u = matrix rank n (take (rank + 1) ptrs) (take fill cols) (take fill vals)
 
-  faults : (is_refused (clean 1048576 p u) || any rank (headless u pivots) ≡ false) × (any n (misplaced u pivots) ≡ false)
+  faults : (is_err (clean 1048576 p u) || any rank (headless u pivots) ≡ false) × (any n (misplaced u pivots) ≡ false)
   unfolding u_fault u_rows
   faults = neither _ _ sound
 
-  pub state_clean : clean 1048576 p u ≡ Good
-  state_clean = not_refused _ (neither (is_refused (clean 1048576 p u)) (any rank (headless u pivots)) faults.0).0
+  pub state_clean : clean 1048576 p u ≡ Ok tt
+  state_clean = not_refused _ (neither (is_err (clean 1048576 p u)) (any rank (headless u pivots)) faults.0).0
 
-  tidy : well_formed 1048576 p u ≡ Good
+  tidy : well_formed 1048576 p u ≡ Ok tt
   unfolding clean
   tidy = (lowest_good _ _ state_clean).0
 
@@ -73,7 +73,7 @@ module _ (p n rank fill : ℕ) (cols vals ptrs pivots : List ℕ) (o : Opened p 
 
   -- what a row's own test gives
   headed : (r : ℕ) → r < rank → headless u pivots r ≡ false
-  headed r h = any_false rank (headless u pivots) (neither (is_refused (clean 1048576 p u)) (any rank (headless u pivots)) faults.0).1 r h
+  headed r h = any_false rank (headless u pivots) (neither (is_err (clean 1048576 p u)) (any rank (headless u pivots)) faults.0).1 r h
 
   abbrev empty : ℕ → Bool
   empty r = leb (get_or (take (rank + 1) ptrs) (r + 1) 0) (get_or (take (rank + 1) ptrs) r 0)

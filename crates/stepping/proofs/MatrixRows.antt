@@ -1,5 +1,6 @@
 -- A row of a clean matrix: where it lies, and that it is clean.
 -- Assumes nothing.
+use Rattle.std.specs.Prelude.{Ok}
 use mathlib.Core.Path.{◌≡◌, sym, subst, ◌∙◌}
 use mathlib.Core.List.{[]}
 use Prim.Native.Nat.{ℕ, ◌+◌, ◌≤◌, ◌<◌}
@@ -9,7 +10,6 @@ use Rattle.lists.proofs.Tables.{get_or-table}
 use Rattle.sparse.specs.Matrix.{Matrix, row}
 use Rattle.sparse.specs.Rows.{entries, rows_of, row_at}
 use Rattle.sparse.specs.Tests.{rows_values_test, values_test, matrix_test, well_formed, clean}
-use Rattle.sparse.specs.declared.Tested.TheVariants.{Good}
 use Rattle.sparse.specs.declared.inside.Clause.TheVariants.{Residue, Nonzero}
 use Rattle.sparse.proofs.Cuts.{Laid, formed_laid, formed_rows, row_in, Within, small, Small}
 use Rattle.sparse.proofs.Firsts.{lowest_good, each_good}
@@ -22,8 +22,8 @@ use Rattle.stepping.specs.Asks.{Offered}
 use Rattle.stepping.proofs.Offers.{offered}
 
 -- a clean matrix, part by part
-module _ (p : ℕ) (a : Matrix) (e : clean 65536 p a ≡ Good) where
-  formed : well_formed 65536 p a ≡ Good
+module _ (p : ℕ) (a : Matrix) (e : clean 65536 p a ≡ Ok tt) where
+  formed : well_formed 65536 p a ≡ Ok tt
   unfolding clean
   formed = (lowest_good _ _ e).0
 
@@ -34,13 +34,13 @@ module _ (p : ℕ) (a : Matrix) (e : clean 65536 p a ≡ Good) where
   unfolding well_formed
   sizes = small 65536 a.nrows a.ncols (length a.values) (lowest_good _ _ (lowest_good _ _ formed).1).0
 
-  low_values : (i : ℕ) → i < a.nrows → values_test Residue p (row a.row_ptrs a.values i) ≡ Good
+  low_values : (i : ℕ) → i < a.nrows → values_test Residue p (row a.row_ptrs a.values i) ≡ Ok tt
   unfolding well_formed matrix_test rows_values_test
   low_values i h =
       let m = (lowest_good _ _ (lowest_good _ _ formed).1).1 in
       each_good a.nrows _ (lowest_good _ _ (lowest_good _ _ (lowest_good _ _ (lowest_good _ _ m).0).1).1).0 i h
 
-  some_values : (i : ℕ) → i < a.nrows → values_test Nonzero p (row a.row_ptrs a.values i) ≡ Good
+  some_values : (i : ℕ) → i < a.nrows → values_test Nonzero p (row a.row_ptrs a.values i) ≡ Ok tt
   unfolding clean rows_values_test
   some_values i h = each_good a.nrows _ (lowest_good _ _ (lowest_good _ _ e).1).0 i h
 

@@ -1,5 +1,6 @@
 -- A row whose columns climb and whose values pass 6 and 7 is clean.
 -- Assumes nothing.
+use Rattle.std.specs.Prelude.{Ok}
 use mathlib.Core.Path.{◌≡◌, sym, ap, subst}
 use mathlib.Core.List.{List}
 use Prim.Native.Nat.{ℕ, ◌<◌}
@@ -12,7 +13,6 @@ use Rattle.sparse.specs.Put.{cols_of}
 use Rattle.sparse.specs.Rows.{entry, entries}
 use Rattle.sparse.specs.Tests.{value_test, values_test}
 use Rattle.sparse.specs.declared.Refusal.TheVariants.{Zero}
-use Rattle.sparse.specs.declared.Tested.TheVariants.{Good}
 use Rattle.sparse.specs.declared.inside.Clause.TheVariants.{Residue, Nonzero}
 use Rattle.sparse.proofs.Firsts.{refuse_good, each_good}
 use Rattle.meaning.proofs.BuiltForm.{below_p}
@@ -23,7 +23,7 @@ use Rattle.steps.specs.Rows.{Storable, entry_at}
 use Rattle.stepping.specs.Asks.{Offered}
 
 -- a stored value isn't 0
-pub above_zero : (p : ℕ) (vals : List ℕ) → values_test Nonzero p vals ≡ Good → (k : ℕ) → k < length vals → 0 < get_or vals k 0
+pub above_zero : (p : ℕ) (vals : List ℕ) → values_test Nonzero p vals ≡ Ok tt → (k : ℕ) → k < length vals → 0 < get_or vals k 0
 unfolding values_test value_test
 above_zero p vals e k h = omega (arith, eqb-false (get_or vals k 0) 0 (refuse_good (eqb (get_or vals k 0) 0) Zero (each_good (length vals) _ e k h)))
 
@@ -31,7 +31,7 @@ value_here : (cols vals : List ℕ) (k : ℕ) → k < length vals → (entry_at 
 unfolding entries
 value_here cols vals k h = ap (λ e. e.value) (get_or-table (length vals) (λ i. entry (get_or cols i 0) (get_or vals i 0)) k (entry 0 0) h)
 
-pub offered : (c : Counts) (cols vals : List ℕ) → length cols ≡ length vals → Climbs c.ncols cols → values_test Residue c.modulus vals ≡ Good → values_test Nonzero c.modulus vals ≡ Good → Offered c cols vals
+pub offered : (c : Counts) (cols vals : List ℕ) → length cols ≡ length vals → Climbs c.ncols cols → values_test Residue c.modulus vals ≡ Ok tt → values_test Nonzero c.modulus vals ≡ Ok tt → Offered c cols vals
 unfolding cols_of
 offered c cols vals same climbs low some = record {
   same = same;

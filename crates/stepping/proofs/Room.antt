@@ -1,5 +1,6 @@
 -- What the test of room gives, in sums; and the parts of a state.
 -- Assumes nothing.
+use Rattle.std.specs.Prelude.{Ok}
 use mathlib.Core.Path.{◌≡◌, refl}
 use mathlib.Core.Bool.{true, false, not}
 use mathlib.Core.List.{List}
@@ -8,7 +9,6 @@ use native.Mathlib.Omega.{arith}
 use borrow.Author.Tests.{leb-false, ltb-false, eqb-true, not-false}
 use lib.Dec.{leb, ltb, eqb}
 use lib.ListN.{length}
-use Rattle.sparse.specs.declared.Tested.TheVariants.{Good}
 use Rattle.sparse.proofs.Firsts.{refuse_good, neither}
 use Rattle.state.specs.Fresh.{keeps}
 use Rattle.state.specs.Memory.{Memory, at_most, places}
@@ -91,7 +91,7 @@ l_room None c cols vals ptrs e = record { columns = no_true; numbers = λ k. let
 
 module _ (c : Counts) (m : Memory) where
   -- by 14
-  module _ (e : room_test c m ≡ Good) where
+  module _ (e : room_test c m ≡ Ok tt) where
     full : (u_full c.ncols c.rank c.u_fill m.u_cols m.u_vals m.u_ptrs ≡ false) × (l_full c.mode c m.l_cols m.l_vals m.l_ptrs ≡ false)
     unfolding room_test
     full = neither _ _ (refuse_good _ _ e)
@@ -108,7 +108,7 @@ module _ (c : Counts) (m : Memory) where
     pub fault : u_fault c.modulus (u_rows c.ncols c.rank c.u_fill m.u_cols m.u_vals m.u_ptrs) m.pivots ≡ false
     pub multipliers : l_fault c.mode c m.l_cols m.l_vals m.l_ptrs ≡ false
 
-  pub state_parts : state_test c m ≡ Good → Parts
+  pub state_parts : state_test c m ≡ Ok tt → Parts
   unfolding state_test u_of
   state_parts e =
       let all = neither _ _ (refuse_good _ _ e) in

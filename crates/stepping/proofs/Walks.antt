@@ -1,5 +1,6 @@
 -- A row past step 1: what its walk asks for, and what is told and seen after it.
 -- Assumes nothing.
+use Rattle.std.specs.Prelude.{None, Ok, Some}
 use mathlib.Core.Path.{◌≡◌, refl, sym, ap, subst, ◌∙◌}
 use mathlib.Core.Bool.{Bool, true, false, ◌||◌}
 use mathlib.Core.List.{List}
@@ -8,6 +9,7 @@ use native.Mathlib.Omega.{arith}
 use borrow.Author.Tests.{lt-ltb, le-ltb, eqb-false, not-false}
 use lib.Dec.{eqb}
 use lib.ListN.{length}
+use Rattle.sparse.specs.Refusals.{Tested}
 use Rattle.lists.proofs.Tables.{length-table}
 use Rattle.field.specs.Prime.{is_modulus}
 use Rattle.field.proofs.Primes.{modulus_iff}
@@ -15,8 +17,6 @@ use Rattle.sparse.specs.Lent.{outcome}
 use Rattle.sparse.specs.Rows.{Entry, entries}
 use Rattle.sparse.specs.Tests.{modulus_test}
 use Rattle.sparse.specs.declared.Refusal.TheVariants.{Modulus}
-use Rattle.sparse.specs.declared.Tested.{Tested}
-use Rattle.sparse.specs.declared.Tested.TheVariants.{Good}
 use Rattle.sparse.proofs.Firsts.{refuse_good, neither}
 use Rattle.meaning.proofs.RowLists.{length-entries}
 use Rattle.state.specs.Fresh.{keeps}
@@ -26,10 +26,8 @@ use Rattle.state.specs.declared.Counts.{Counts}
 use Rattle.state.specs.declared.Mode.{Mode}
 use Rattle.state.specs.declared.Mode.TheVariants.{Full, Pattern, None as NoL}
 use Rattle.walk.specs.Left.{answer_of}
-use Rattle.walk.specs.Step.{is_none, Taken, step}
+use Rattle.walk.specs.Step.{is_none, Taken, step, Answer}
 use Rattle.walk.specs.Step as S
-use Rattle.walk.specs.declared.Answer.{Answer}
-use Rattle.walk.specs.declared.Answer.TheVariants.{Accepted, None}
 use Rattle.steps.specs.History.{at_once}
 use Rattle.steps.specs.Setting.{Inverts, Echelon}
 use Rattle.steps.proofs.Nones.{rows_few}
@@ -51,7 +49,7 @@ unfolding at_once
 at_once_lem n rank cols vals same = ap (λ (k : ℕ). eqb k 0 || eqb rank n) (length-entries cols vals ∙ sym same)
 
 -- room, by the same
-pub not_asked : {b : Bool} (c : Counts) (cols vals : List ℕ) (m : Memory) → length cols ≡ length vals → b ≡ eqb (length cols) 0 || eqb c.rank c.ncols → b ≡ true → Good ≡ room_asked c (entries cols vals) m
+pub not_asked : {b : Bool} (c : Counts) (cols vals : List ℕ) (m : Memory) → length cols ≡ length vals → b ≡ eqb (length cols) 0 || eqb c.rank c.ncols → b ≡ true → Ok tt ≡ room_asked c (entries cols vals) m
 unfolding room_asked
 not_asked c cols vals m same e h = rw (at_once_lem c.ncols c.rank cols vals same ∙ sym e ∙ h)
 
@@ -101,7 +99,7 @@ module _ {c : Counts} {cols vals : List ℕ} {o : Lists} (r : Ready c cols vals 
   past : at_once c.ncols c.rank es ≡ false
   past = at_once_lem c.ncols c.rank cols vals r.row.same ∙ later
 
-  room : room_test c o.memory ≡ Good
+  room : room_test c o.memory ≡ Ok tt
   unfolding room_asked
   room = rw past at r.room
 
@@ -129,7 +127,7 @@ module _ {c : Counts} {cols vals : List ℕ} {o : Lists} (r : Ready c cols vals 
 
     -- a row of U has at most a place for each column
     few : (a : Answer) → t.answer ≡ a → length t.u ≤ c.ncols
-    few (Accepted g) e = (step_added on c.modulus c.ncols c.rank u (heads c o r.stands) (stands_inverts c o r.stands) (stands_echelon c o r.stands) es r.row.clean e).u_room
+    few (Some g) e = (step_added on c.modulus c.ncols c.rank u (heads c o r.stands) (stands_inverts c o r.stands) (stands_echelon c o r.stands) es r.row.clean e).u_room
     few None e = let none = (step_not_added on c.modulus c.ncols c.rank u (heads c o r.stands) (stands_inverts c o r.stands) (stands_echelon c o r.stands) es r.row.clean e).none in omega (arith, ap length none)
 
     -- its walk may begin
@@ -182,7 +180,7 @@ module _ {c : Counts} {cols vals : List ℕ} {o : Lists} (r : Ready c cols vals 
 
     tell : (a : Answer) → t.answer ≡ a → Told a
     unfolding storing took counts_after stored after_walk one_if answer_of is_none
-    tell (Accepted g) e =
+    tell (Some g) e =
         let added = step_added on c.modulus c.ncols c.rank u (heads c o r.stands) (stands_inverts c o r.stands) (stands_echelon c o r.stands) es r.row.clean e in
         record {
           countable = record {

@@ -1,8 +1,7 @@
 -- What a row's step asks for.
-use Rattle.std.specs.Prelude.{◌≡◌, List, ℕ, ◌+◌, ◌≤◌, length}
+use Rattle.std.specs.Prelude.{◌≡◌, List, ℕ, ◌+◌, ◌≤◌, length, Ok}
 use Rattle.lists.specs.Table.{table}
 use Rattle.sparse.specs.Rows.{entries}
-use Rattle.sparse.specs.declared.Tested.TheVariants.{Good}
 use Rattle.state.specs.Asks.{Opened}
 use Rattle.state.specs.State.{state_test}
 use Rattle.state.specs.declared.Counts.{Counts}
@@ -13,7 +12,7 @@ use Rattle.stepping.specs.Take.{Lists, room_asked}
 -- by 1, 2, 11 and 13: a state
 pub record Stands (c : Counts) (o : Lists) : Type 0 where
   pub opened : Opened c.modulus c.ncols o.memory.pivots
-  pub state : state_test c o.memory ≡ Good
+  pub state : state_test c o.memory ≡ Ok tt
 
 -- by 3 and 5 to 7: a clean row
 pub record Offered (c : Counts) (cols vals : List ℕ) : Type 0 where
@@ -24,7 +23,7 @@ pub record Offered (c : Counts) (cols vals : List ℕ) : Type 0 where
 pub record Ready (c : Counts) (cols vals : List ℕ) (o : Lists) : Type 0 where
   pub stands : Stands c o
   pub row : Offered c cols vals
-  pub room : room_asked c (entries cols vals) o.memory ≡ Good
+  pub room : room_asked c (entries cols vals) o.memory ≡ Ok tt
   pub zero : o.dense ≡ table c.ncols (λ j. 0)
 
 -- sums that stay within the places

@@ -1,19 +1,16 @@
 -- One row taken by a reducer: document 01's steps 1 to 4 over the lent memory.
-use Rattle.std.specs.Prelude.{ℕ, ◌+◌, Bool, cond, List, length}
+use Rattle.sparse.specs.Refusals.{Tested}
+use Rattle.std.specs.Prelude.{ℕ, ◌+◌, Bool, cond, List, length, None, Ok, Some}
 use Rattle.lists.specs.Onto.{◌onto◌}
 use Rattle.lists.specs.Table.{table}
 use Rattle.sparse.specs.Lent.{Outcome, outcome}
 use Rattle.sparse.specs.Rows.{Entry}
-use Rattle.sparse.specs.declared.Tested.{Tested}
-use Rattle.sparse.specs.declared.Tested.TheVariants.{Good}
 use Rattle.state.specs.Fresh.{counts, keeps}
 use Rattle.state.specs.Memory.{Memory, memory}
 use Rattle.state.specs.Room.{room_test}
 use Rattle.state.specs.declared.Counts.{Counts}
-use Rattle.walk.specs.Step.{is_none, Taken, step}
+use Rattle.walk.specs.Step.{is_none, Taken, step, Answer}
 use Rattle.walk.specs.Step as S
-use Rattle.walk.specs.declared.Answer.{Answer}
-use Rattle.walk.specs.declared.Answer.TheVariants.{Accepted, None}
 use Rattle.steps.specs.History.{at_once}
 use Rattle.taking.specs.Stores.{Upper, upper, with_u, Lower, lower, with_l, kept_entries}
 use Rattle.stepping.specs.declared.Stepped.{Stepped}
@@ -46,7 +43,7 @@ cleared n dense = table n (λ j. 0) onto dense
 
 -- step 2, asked only where step 1 doesn't apply
 unfoldable pub room_asked : Counts → List Entry → Memory → Tested
-room_asked c es m = cond (at_once c.ncols c.rank es) Good (room_test c m)
+room_asked c es m = cond (at_once c.ncols c.rank es) (Ok tt) (room_test c m)
 
 -- steps 3 and 4: what the row comes to
 unfoldable pub step_of : Bool → Counts → List Entry → Memory → Taken
@@ -59,7 +56,7 @@ counts_after c a t =
 
 -- the lists after it
 unfoldable pub stored : Counts → Answer → Taken → Memory → Memory
-stored c (Accepted g) t m = together (with_u c.rank c.u_fill g t.u (upper_of m)) (with_l c.mode c.l_rows c.l_fill t.l (lower_of m))
+stored c (Some g) t m = together (with_u c.rank c.u_fill g t.u (upper_of m)) (with_l c.mode c.l_rows c.l_fill t.l (lower_of m))
 stored c None t m = together (upper_of m) (with_l c.mode c.l_rows c.l_fill t.l (lower_of m))
 
 -- answer, counts and lists after what a row comes to

@@ -4,11 +4,10 @@
 pub mod rows;
 
 use state::Counts;
-use walk::Answer;
 
-// A row's answer, and the counts afterwards.
+// A row's answer, the column where it was accepted or None, and the counts afterwards.
 #[derive(Clone, Copy)]
 pub struct Stepped {
-    pub answer: Answer,
+    pub answer: Option<u32>,
     pub counts: Counts,
 }

@@ -9,13 +9,12 @@ ghost use Rattle.stepping.specs.Asks.{Ready, Countable};
 ghost use Rattle.stepping.specs.Take.{lists, room_asked, step_row};
 
 use crate::Stepped;
-use sparse::Tested;
+use sparse::Refusal;
 use state::Counts;
 use state::inside::room_test;
 use state::start::keeps_l;
 use taking::Walked;
 use taking::rows::walk_row;
-use walk::Answer;
 
 // Step 2: room, asked only where step 1 doesn't apply.
 pub fn room_asked(
@@ -29,12 +28,12 @@ pub fn room_asked(
     l_vals: &[u32],
     l_ptrs: &[usize],
     pivots: &[u32],
-) -> Tested
+) -> Result<(), Refusal>
     requires { length cols.now ≡ length vals.now }
     ensures { result ≡ room_asked counts (entries cols.now vals.now) (memory u_cols.now u_vals.now u_ptrs.now l_cols.now l_vals.now l_ptrs.now pivots.now) }
 {
     if is_at_once(counts.ncols, counts.rank, cols.len()) {
-        return Tested::Good;
+        return Ok(());
     }
     room_test(
         counts, u_cols, u_vals, u_ptrs, l_cols, l_vals, l_ptrs, pivots,
@@ -71,7 +70,7 @@ pub fn step_row(
 {
     if is_at_once(counts.ncols, counts.rank, cols.len()) {
         return Stepped {
-            answer: Answer::None,
+            answer: None,
             counts,
         };
     }
@@ -123,19 +122,16 @@ fn after(counts: Counts, walked: Walked) -> Stepped
 pub fn one_if(counted: bool) -> usize
     ensures { result ≡ one_if counted }
 {
-    if counted {
-        return 1;
-    }
-    0
+    usize::from(counted)
 }
 
 // The answer, by the head's column.
-fn answer_of(ncols: u32, head: usize) -> Answer
+fn answer_of(ncols: u32, head: usize) -> Option<u32>
     requires { head ≤ 1024 }
     ensures { result ≡ answer_of ncols head }
 {
     if head < ncols as usize {
-        return Answer::Accepted(head as u32);
+        return Some(head as u32);
     }
-    Answer::None
+    None
 }

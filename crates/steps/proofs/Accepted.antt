@@ -1,5 +1,6 @@
 -- A row that a walk accepts: L's row times the new U is the row, and the new rows span what the old ones and the row do.
 -- Assumes nothing.
+use Rattle.std.specs.Prelude.{None, Some}
 use mathlib.Core.Path.{◌≡◌, refl, sym, ap, subst, ◌∙◌}
 use mathlib.Core.Logic.{◌↔◌}
 use mathlib.Core.Bool.{Bool}
@@ -14,7 +15,6 @@ use Rattle.linear.proofs.Heads.{adding}
 use Rattle.linear.proofs.Span.{Span, span_same, span_row, span_mul, span_trans}
 use Rattle.sparse.specs.Rows.{Entry, entry}
 use Rattle.walk.specs.Step.{Upper, Way, way, climb, taken, divided}
-use Rattle.walk.specs.declared.Answer.TheVariants.{Accepted, None}
 use Rattle.steps.specs.Added.{Added}
 use Rattle.steps.specs.Rows.{value_of, Each, LRow, times}
 use Rattle.steps.specs.Setting.{Inverts, Echelon, Begins, with_last, Grown}
@@ -39,7 +39,7 @@ module _ (on : Bool) (p n k : ℕ) (u : Upper) (h : ℕ → ℕ) (inverts : Inve
   below : Each (λ e. e.col < suc k) w.l
   below = record { at = λ i c. omega (arith, order.rows.at i c) }
 
-  module _ (g : ℕ) (answer : w.answer ≡ Accepted g) where
+  module _ (g : ℕ) (answer : w.answer ≡ Some g) where
     begins : Begins n u.pivots w.rest g
     begins = accepted_begins on p n k u h echelon x small g answer
 
@@ -50,7 +50,7 @@ module _ (on : Bool) (p n k : ℕ) (u : Upper) (h : ℕ → ℕ) (inverts : Inve
     abbrev l : List Entry
     l = w.l ++ (entry k (w.rest g) ∷ [])
 
-    pub walk_added : Added p n k u h g (taken (Accepted g) new l)
+    pub walk_added : Added p n k u h g (taken (Some g) new l)
     walk_added = record {
       within = begins.within;
       free = begins.free;

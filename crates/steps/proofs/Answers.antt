@@ -1,5 +1,6 @@
 -- Step 1 answers as steps 3 and 4 would: at full rank every row is a combination, and so is an empty row.
 -- Assumes nothing.
+use Rattle.std.specs.Prelude.{None, Some}
 use mathlib.Core.Path.{◌≡◌, refl, sym, ap, subst}
 use mathlib.Core.Logic.{◌↔◌, ⊎_elim}
 use mathlib.Core.Bool.{Bool, true, false, cond}
@@ -14,7 +15,6 @@ use Rattle.linear.proofs.Heads.{Heads, full}
 use Rattle.linear.proofs.Span.{Span, span_combination, span_same, span_zero}
 use Rattle.sparse.specs.Rows.{Entry}
 use Rattle.walk.specs.Step.{Upper, taken, step}
-use Rattle.walk.specs.declared.Answer.TheVariants.{Accepted, None}
 use Rattle.steps.specs.History.{at_once, answered}
 use Rattle.steps.specs.Rows.{value_of, CleanRow}
 use Rattle.steps.specs.Setting.{Inverts, Echelon}
@@ -39,11 +39,11 @@ pub full_combination : {p n : ℕ} {u : Upper} {h : ℕ → ℕ} → 0 < p → E
 full_combination {p} {n} {u} {h} pos echelon x small = span_combination pos small (full p n u.value h echelon.heads pos x)
 
 -- an accepted row went through steps 3 and 4
-pub answered_step : (on : Bool) (p n k : ℕ) (u : Upper) (es : List Entry) (g : ℕ) → (answered on p n k u es).answer ≡ Accepted g → answered on p n k u es ≡ step on p n k u es
+pub answered_step : (on : Bool) (p n k : ℕ) (u : Upper) (es : List Entry) (g : ℕ) → (answered on p n k u es).answer ≡ Some g → answered on p n k u es ≡ step on p n k u es
 unfolding answered
 answered_step on p n k u es g = go (at_once n k es)
   where
-    go : (b : Bool) → (cond b (taken None [] []) (step on p n k u es)).answer ≡ Accepted g → cond b (taken None [] []) (step on p n k u es) ≡ step on p n k u es
+    go : (b : Bool) → (cond b (taken None [] []) (step on p n k u es)).answer ≡ Some g → cond b (taken None [] []) (step on p n k u es) ≡ step on p n k u es
     go true q = let z : ◌≡◌ {A = ℕ} 0 1 = cc in absurd (omega arith)
     go false q = refl
 

@@ -1,5 +1,6 @@
 -- A row that is copied directly is what the walk makes of it, in both walks.
 -- Assumes nothing.
+use Rattle.std.specs.Prelude.{None, Some}
 use mathlib.Core.Path.{◌≡◌, refl, sym, ap, ap₂, ◌∙◌}
 use mathlib.Core.Logic.{⊎_elim}
 use mathlib.Core.Bool.{Bool, true, false, not, cond, true≢false}
@@ -21,7 +22,6 @@ use Rattle.sparse.specs.Pivots.{mark}
 use Rattle.sparse.specs.Put.{cols_of, values_of}
 use Rattle.sparse.specs.Rows.{Entry, entry}
 use Rattle.walk.specs.Step.{Upper, pivot_at, is_none, Way, way, accept, stopped, at, climb, taken, divided, ended, start, walked, copied, direct, step}
-use Rattle.walk.specs.declared.Answer.TheVariants.{Accepted, None}
 use Rattle.walk.proofs.Ways.{at_zero, at_stopped, at_free}
 use Rattle.steps.specs.Rows.{value_of, entry_at, Storable, CleanRow}
 use Rattle.steps.specs.Setting.{Inverts, Begins}
@@ -32,26 +32,26 @@ use Rattle.steps.proofs.Zeros.{without_zeros, by_columns, row_clean, row_small, 
 -- a row x that begins at g, where no pivot stands; in the second walk none stands under any of its values
 module _ (on : Bool) (p n : ℕ) (u : Upper) (x : ℕ → ℕ) (g : ℕ) (begins : Begins n u.pivots x g) (clear : on ≡ true → (j : ℕ) → (x j ≡ 0 → ⊥) → pivot_at u.pivots j ≡ mark) where
   -- at a column past its head
-  past : (c : ℕ) → g < c → at on p u c (way x [] (Accepted g)) ≡ way x [] (Accepted g)
+  past : (c : ℕ) → g < c → at on p u c (way x [] (Some g)) ≡ way x [] (Some g)
   unfolding accept stopped is_none
   past c h = go on refl
     where
-      go : (b : Bool) → on ≡ b → at on p u c (way x [] (Accepted g)) ≡ way x [] (Accepted g)
-      go false e = at_stopped on p u c (way x [] (Accepted g)) (rw e)
+      go : (b : Bool) → on ≡ b → at on p u c (way x [] (Some g)) ≡ way x [] (Some g)
+      go false e = at_stopped on p u c (way x [] (Some g)) (rw e)
       go true e = there (ℕ_discrete (x c) 0)
         where
-          there : Dec (x c ≡ 0) → at on p u c (way x [] (Accepted g)) ≡ way x [] (Accepted g)
-          there (yes z) = at_zero on p u c (way x [] (Accepted g)) z
-          there (no z) = at_free on p u c (way x [] (Accepted g)) (rw e) z (clear e c z)
+          there : Dec (x c ≡ 0) → at on p u c (way x [] (Some g)) ≡ way x [] (Some g)
+          there (yes z) = at_zero on p u c (way x [] (Some g)) z
+          there (no z) = at_free on p u c (way x [] (Some g)) (rw e) z (clear e c z)
 
   -- the walk changes nothing
-  pub untouched : (c : ℕ) → climb on p u c (way x [] None) ≡ way x [] (cond (ltb g c) (Accepted g) None)
+  pub untouched : (c : ℕ) → climb on p u c (way x [] None) ≡ way x [] (cond (ltb g c) (Some g) None)
   unfolding climb accept is_none
   untouched zero = rw (le-ltb g 0 (omega arith))
   untouched (suc c) = ap (at on p u c) (untouched c) ∙ go (dec_lt c g) (dec_lt g c)
     where
-      go : Dec (c < g) → Dec (g < c) → at on p u c (way x [] (cond (ltb g c) (Accepted g) None)) ≡ way x [] (cond (ltb g (suc c)) (Accepted g) None)
-      go (yes b) d = at_zero on p u c (way x [] (cond (ltb g c) (Accepted g) None)) (begins.before c b) ∙ rw (le-ltb g c (omega arith), le-ltb g (suc c) (omega arith))
+      go : Dec (c < g) → Dec (g < c) → at on p u c (way x [] (cond (ltb g c) (Some g) None)) ≡ way x [] (cond (ltb g (suc c)) (Some g) None)
+      go (yes b) d = at_zero on p u c (way x [] (cond (ltb g c) (Some g) None)) (begins.before c b) ∙ rw (le-ltb g c (omega arith), le-ltb g (suc c) (omega arith))
       go (no b) (yes d) = rw (lt-ltb g c d, lt-ltb g (suc c) (omega arith)) (past c d)
       go (no b) (no d) =
           let e : c ≡ g = omega arith in
@@ -120,7 +120,7 @@ module _ (on : Bool) (p n rank : ℕ) (u : Upper) (inverts : Inverts p) where
   pub copy_walk : (es : List Entry) → CleanRow p n es → direct on u es ≡ true → copied p rank es ≡ walked on p n rank u es
   unfolding direct copied walked start ended divided cols_of values_of
   copy_walk [] row d = absurd (true≢false (sym d))
-  copy_walk (e ∷ es) row d = sym (ap (λ (w : Way). ended p n rank w.answer w) walk ∙ ap₂ (λ (ds : List Entry) (v : ℕ). taken (Accepted e.col) ds (entry rank v ∷ [])) new value)
+  copy_walk (e ∷ es) row d = sym (ap (λ (w : Way). ended p n rank w.answer w) walk ∙ ap₂ (λ (ds : List Entry) (v : ℕ). taken (Some e.col) ds (entry rank v ∷ [])) new value)
     where
       x : ℕ → ℕ
       x = value_of (e ∷ es)
@@ -139,7 +139,7 @@ module _ (on : Bool) (p n rank : ℕ) (u : Upper) (inverts : Inverts p) where
         before = before_head (row_clean row);
       }
 
-      walk : climb on p u n (way x [] None) ≡ way x [] (Accepted e.col)
+      walk : climb on p u n (way x [] None) ≡ way x [] (Some e.col)
       walk = untouched on p n u x e.col begins (free_values on u e es d) n ∙ rw (lt-ltb e.col n begins.within)
 
       new : divided p n x e.col ≡ map (λ d. entry d.col (d.value * inverse p e.value % p)) (e ∷ es)

@@ -1,5 +1,6 @@
 -- Where a walk ends: nothing is left, or what is left begins at a column with no pivot.
 -- Assumes nothing.
+use Rattle.std.specs.Prelude.{None, Some}
 use mathlib.Core.Path.{◌≡◌, refl, sym, ap, subst, ◌∙◌}
 use mathlib.Core.Logic.{◌⊎◌, inl, inr, ⊎_elim}
 use mathlib.Core.Bool.{Bool, true, false, not, ◌&&◌, cond, true≢false}
@@ -11,9 +12,7 @@ use native.Mathlib.Omega.{arith}
 use Rattle.lists.proofs.Mods.{mul_mod_mod}
 use Rattle.linear.proofs.Heads.{none_right, adding}
 use Rattle.sparse.specs.Pivots.{mark}
-use Rattle.walk.specs.Step.{Upper, pivot_at, is_none, Way, way, subtract, accept, stopped, climb}
-use Rattle.walk.specs.declared.Answer.{Answer}
-use Rattle.walk.specs.declared.Answer.TheVariants.{Accepted, None}
+use Rattle.walk.specs.Step.{Upper, pivot_at, is_none, Way, way, subtract, accept, stopped, climb, Answer}
 use Rattle.walk.proofs.Climbing.{goes_on}
 use Rattle.steps.specs.Setting.{Echelon, Begins}
 use Rattle.steps.proofs.Cases.{Cases, at_cases}
@@ -23,7 +22,7 @@ use Rattle.steps.proofs.Sums.{walk_sums}
 pub record Passed (on : Bool) (c : ℕ) (u : Upper) (w : Way) : Type 0 where
   pub clear : stopped on w ≡ false → (j : ℕ) → j < c → (pivot_at u.pivots j ≡ mark → ⊥) → w.rest j ≡ 0
   pub none : w.answer ≡ None → (j : ℕ) → j < c → w.rest j ≡ 0
-  pub some : (g : ℕ) → w.answer ≡ Accepted g → Begins c u.pivots w.rest g
+  pub some : (g : ℕ) → w.answer ≡ Some g → Begins c u.pivots w.rest g
 
 pub none_goes : (on : Bool) (w : Way) → w.answer ≡ None → stopped on w ≡ false
 unfolding stopped is_none
@@ -45,15 +44,15 @@ begins_wider : {c : ℕ} {pivots : List ℕ} {x : ℕ → ℕ} {g : ℕ} → Beg
 begins_wider b = record { within = omega (arith, b.within); free = b.free; stands = b.stands; before = b.before }
 
 -- the answer of an accepted row
-first_answer : (c g : ℕ) (a : Answer) → cond (is_none a) (Accepted c) a ≡ Accepted g → ((a ≡ None) × (g ≡ c)) ⊎ (a ≡ Accepted g)
+first_answer : (c g : ℕ) (a : Answer) → cond (is_none a) (Some c) a ≡ Some g → ((a ≡ None) × (g ≡ c)) ⊎ (a ≡ Some g)
 unfolding is_none
 first_answer c g None e = inl (refl, (cc))
-first_answer c g (Accepted d) e = inr e
+first_answer c g (Some d) e = inr e
 
-never_none : (c : ℕ) (a : Answer) → cond (is_none a) (Accepted c) a ≡ None → ⊥
+never_none : (c : ℕ) (a : Answer) → cond (is_none a) (Some c) a ≡ None → ⊥
 unfolding is_none
 never_none c None e = let z : ◌≡◌ {A = ℕ} 0 1 = cc in omega arith
-never_none c (Accepted d) e = let z : ◌≡◌ {A = ℕ} 0 1 = cc in omega arith
+never_none c (Some d) e = let z : ◌≡◌ {A = ℕ} 0 1 = cc in omega arith
 
 module _ (on : Bool) (p n k : ℕ) (u : Upper) (h : ℕ → ℕ) (echelon : Echelon p n k u h) where
   -- a pivot's row: 0 before its column, 1 there
@@ -154,7 +153,7 @@ module _ (on : Bool) (p n k : ℕ) (u : Upper) (h : ℕ → ℕ) (echelon : Eche
     none_left_over e = (walk_passed n (omega arith)).none e
 
     -- accepted at g: no pivot stands there, and what is left begins there
-    pub accepted_begins : (g : ℕ) → (climb on p u n (way x [] None)).answer ≡ Accepted g → Begins n u.pivots (climb on p u n (way x [] None)).rest g
+    pub accepted_begins : (g : ℕ) → (climb on p u n (way x [] None)).answer ≡ Some g → Begins n u.pivots (climb on p u n (way x [] None)).rest g
     accepted_begins g e = (walk_passed n (omega arith)).some g e
 
 -- the second walk leaves nothing over any pivot

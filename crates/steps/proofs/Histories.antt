@@ -1,5 +1,6 @@
 -- From a fresh start, both walks mixed: a row is answered None exactly if it is a combination of the rows accepted before it.
 -- Assumes nothing.
+use Rattle.std.specs.Prelude.{None, Some}
 use mathlib.Core.Path.{◌≡◌, refl, sym, ap, subst, ◌∙◌}
 use mathlib.Core.Logic.{◌↔◌}
 use mathlib.Core.Bool.{Bool, true, false, not, cond}
@@ -15,9 +16,7 @@ use Rattle.lists.specs.Table.{table}
 use Rattle.linear.specs.Combination.{Combination}
 use Rattle.linear.proofs.Span.{Span, combination_span, span_combination, span_row, span_trans}
 use Rattle.sparse.specs.Rows.{Entry}
-use Rattle.walk.specs.Step.{Upper, is_none, Taken, step}
-use Rattle.walk.specs.declared.Answer.{Answer}
-use Rattle.walk.specs.declared.Answer.TheVariants.{Accepted, None}
+use Rattle.walk.specs.Step.{Upper, is_none, Taken, step, Answer}
 use Rattle.steps.specs.History.{answered, placed, extended, Told, told, accepted, values_in, NoPivots, Next, stays, grows, History, fresh, more}
 use Rattle.steps.specs.Rows.{value_of, CleanRow}
 use Rattle.steps.specs.Setting.{Inverts, Echelon, with_last, Grown}
@@ -63,9 +62,9 @@ pub accepted_same : (ts : List Told) (es : List Entry) → accepted (ts ++ (told
 unfolding accepted keep is_none
 accepted_same ts es = accepted_join ts (told es None ∷ []) ∙ append-nil (accepted ts)
 
-pub accepted_more : (ts : List Told) (es : List Entry) (g : ℕ) → accepted (ts ++ (told es (Accepted g) ∷ [])) ≡ accepted ts ++ (es ∷ [])
+pub accepted_more : (ts : List Told) (es : List Entry) (g : ℕ) → accepted (ts ++ (told es (Some g) ∷ [])) ≡ accepted ts ++ (es ∷ [])
 unfolding accepted keep is_none
-accepted_more ts es g = accepted_join ts (told es (Accepted g) ∷ [])
+accepted_more ts es g = accepted_join ts (told es (Some g) ∷ [])
 
 values_more : (rs : List (List Entry)) (es : List Entry) (i : ℕ) → i < suc (length rs) → values_in (rs ++ (es ∷ [])) i ≡ with_last (length rs) (value_of es) (values_in rs) i
 values_more rs es =
@@ -87,7 +86,7 @@ held_fresh f = record {
 
 module _ (p n : ℕ) (inverts : Inverts p) where
   -- one row taken
-  pub held_grows : (on : Bool) (k : ℕ) (r : ℕ → ℕ → ℕ) (u : Upper) → Held p n k r u → (es : List Entry) → CleanRow p n es → (g : ℕ) (v : Upper) → (answered on p n k u es).answer ≡ Accepted g → Grown n k g u (answered on p n k u es).u v → Held p n (suc k) (with_last k (value_of es) r) v
+  pub held_grows : (on : Bool) (k : ℕ) (r : ℕ → ℕ → ℕ) (u : Upper) → Held p n k r u → (es : List Entry) → CleanRow p n es → (g : ℕ) (v : Upper) → (answered on p n k u es).answer ≡ Some g → Grown n k g u (answered on p n k u es).u v → Held p n (suc k) (with_last k (value_of es) r) v
   held_grows on k r u held es row g v e grown = record {
     h = with_last k g held.h;
     echelon = step_echelon on p n k u held.h inverts held.echelon es row found new;
@@ -98,7 +97,7 @@ module _ (p n : ℕ) (inverts : Inverts p) where
       same : answered on p n k u es ≡ step on p n k u es
       same = answered_step on p n k u es g e
 
-      found : (step on p n k u es).answer ≡ Accepted g
+      found : (step on p n k u es).answer ≡ Some g
       found = ap (λ (t : Taken). t.answer) (sym same) ∙ e
 
       new : Grown n k g u (step on p n k u es).u v
@@ -147,7 +146,7 @@ extended_next on p n k u es = go (answered on p n k u es).answer refl
   where
     go : (a : Answer) → (answered on p n k u es).answer ≡ a → Next on p n k u es a (placed k u (answered on p n k u es).u a)
     go None e = unfold placed in stays e
-    go (Accepted g) e = unfold placed in
+    go (Some g) e = unfold placed in
         grows g _ e (record { kept = λ i l j b. ap (λ (r : ℕ → ℕ). r j) (last_before k (value_of (answered on p n k u es).u) u.value i l); added = λ j b. ap (λ (r : ℕ → ℕ). r j) (last_there k (value_of (answered on p n k u es).u) u.value); placed = refl })
 
 -- so any rows can be taken in turn

@@ -1,5 +1,6 @@
 -- A row is answered None exactly if it is a combination of U's rows.
 -- Assumes nothing.
+use Rattle.std.specs.Prelude.{None, Some}
 use mathlib.Core.Path.{◌≡◌, refl, sym, ap, ◌∙◌}
 use mathlib.Core.Logic.{◌↔◌}
 use mathlib.Core.Bool.{Bool}
@@ -12,9 +13,7 @@ use Rattle.linear.specs.Combination.{Combination}
 use Rattle.linear.proofs.Heads.{span_before}
 use Rattle.linear.proofs.Span.{Span, combination_span, span_combination, span_same, span_rest}
 use Rattle.sparse.specs.Pivots.{mark}
-use Rattle.walk.specs.Step.{Upper, pivot_at, Way, way, climb}
-use Rattle.walk.specs.declared.Answer.{Answer}
-use Rattle.walk.specs.declared.Answer.TheVariants.{Accepted, None}
+use Rattle.walk.specs.Step.{Upper, pivot_at, Way, way, climb, Answer}
 use Rattle.steps.specs.Rows.{times}
 use Rattle.steps.specs.Setting.{Echelon, Begins}
 use Rattle.steps.proofs.Ends.{none_left_over, accepted_begins}
@@ -62,7 +61,7 @@ module _ (on : Bool) (p n k : ℕ) (u : Upper) (h : ℕ → ℕ) (echelon : Eche
 
       go : (a : Answer) → w.answer ≡ a → w.answer ≡ None
       go None e = e
-      go (Accepted g) e =
+      go (Some g) e =
           let b : Begins n u.pivots w.rest g = accepted_begins on p n k u h echelon x small g e in
           let zero_there : w.rest g % p ≡ 0 % p = span_before p n k u.value h echelon.heads rest g b.within (no_head echelon g b.free) (λ j l. ap (λ (z : ℕ). z % p) (b.before j l)) in
           absurd (b.stands (sym (mod-eq_of_lt (sums.small g b.within)) ∙ zero_there ∙ zero-mod p))

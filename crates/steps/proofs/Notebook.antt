@@ -1,5 +1,6 @@
 -- The notebook modulo 7: N5, and what L's rows of N2 and N8 are times U.
 -- Assumes nothing.
+use Rattle.std.specs.Prelude.{None}
 use mathlib.Core.Path.{◌≡◌, refl}
 use mathlib.Core.Bool.{Bool}
 use mathlib.Core.List.{[], ◌∷◌}
@@ -9,7 +10,6 @@ use Rattle.lists.specs.Table.{table}
 use Rattle.sparse.specs.Matrix.{part, row, value_in}
 use Rattle.sparse.specs.Rows.{entry}
 use Rattle.walk.specs.Step.{Upper, upper, taken}
-use Rattle.walk.specs.declared.Answer.TheVariants.{None}
 use Rattle.steps.specs.History.{at_once, answered}
 use Rattle.steps.specs.Rows.{times}
 

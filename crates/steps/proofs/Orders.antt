@@ -1,5 +1,6 @@
 -- L's rows: distinct rows of U in the order of their pivot columns, so at most as many as U has.
 -- Assumes nothing.
+use Rattle.std.specs.Prelude.{None}
 use mathlib.Core.Path.{◌≡◌, sym, ap, subst}
 use mathlib.Core.Bool.{Bool}
 use mathlib.Core.List.{List, [], ◌∷◌, map, map-append}
@@ -13,7 +14,6 @@ use Rattle.meaning.proofs.Climbing.{climbs_none, climbs_wider, climbs_more}
 use Rattle.meaning.proofs.Values.{Climbs}
 use Rattle.sparse.specs.Rows.{Entry, entry}
 use Rattle.walk.specs.Step.{Upper, pivot_at, Way, way, subtract, accept, climb}
-use Rattle.walk.specs.declared.Answer.TheVariants.{None}
 use Rattle.steps.specs.Rows.{entry_at, LRow}
 use Rattle.steps.specs.Setting.{Echelon}
 use Rattle.steps.proofs.Cases.{Cases, at_cases}

@@ -1,5 +1,6 @@
 -- What one row's step means, for any U in echelon form, in both walks.
 -- Assumes nothing.
+use Rattle.std.specs.Prelude.{None, Some}
 use mathlib.Core.Path.{◌≡◌, refl, sym, ap, subst, ◌∙◌}
 use mathlib.Core.Logic.{◌↔◌}
 use mathlib.Core.Bool.{Bool, true}
@@ -14,9 +15,7 @@ use Rattle.linear.specs.Combination.{Combination}
 use Rattle.linear.proofs.Span.{Span, combination_span, span_row, span_trans}
 use Rattle.sparse.specs.Pivots.{mark}
 use Rattle.sparse.specs.Rows.{Entry, entry}
-use Rattle.walk.specs.Step.{Upper, pivot_at, Way, way, climb, Taken, taken, divided, ended, start, walked, step}
-use Rattle.walk.specs.declared.Answer.{Answer}
-use Rattle.walk.specs.declared.Answer.TheVariants.{Accepted, None}
+use Rattle.walk.specs.Step.{Upper, pivot_at, Way, way, climb, Taken, taken, divided, ended, start, walked, step, Answer}
 use Rattle.steps.specs.Added.{Added, NotAdded}
 use Rattle.steps.specs.Rows.{value_of, CleanRow, times}
 use Rattle.steps.specs.Setting.{Inverts, Echelon, with_last, Grown}
@@ -36,7 +35,7 @@ prime_inverts prime = record { least = prime.least; law = λ a pos below. invers
 
 ended_answer : (p n rank : ℕ) (a : Answer) (w : Way) → (ended p n rank a w).answer ≡ a
 unfolding ended
-ended_answer p n rank (Accepted g) w = refl
+ended_answer p n rank (Some g) w = refl
 ended_answer p n rank None w = refl
 
 module _ (on : Bool) (p n k : ℕ) (u : Upper) (h : ℕ → ℕ) (inverts : Inverts p) (echelon : Echelon p n k u h) (es : List Entry) (row : CleanRow p n es) where
@@ -78,11 +77,11 @@ module _ (on : Bool) (p n k : ℕ) (u : Upper) (h : ℕ → ℕ) (inverts : Inve
     )
 
   -- accepted at column g
-  module _ {g : ℕ} (e : (step on p n k u es).answer ≡ Accepted g) where
-    found : w.answer ≡ Accepted g
+  module _ {g : ℕ} (e : (step on p n k u es).answer ≡ Some g) where
+    found : w.answer ≡ Some g
     found = sym answers ∙ e
 
-    adds : step on p n k u es ≡ taken (Accepted g) (divided p n w.rest g) (w.l ++ (entry k (w.rest g) ∷ []))
+    adds : step on p n k u es ≡ taken (Some g) (divided p n w.rest g) (w.l ++ (entry k (w.rest g) ∷ []))
     unfolding ended
     adds = walks ∙ ap (λ (a : Answer). ended p n k a w) found
 
@@ -107,7 +106,7 @@ module _ (on : Bool) (p n k : ℕ) (u : Upper) (h : ℕ → ℕ) (inverts : Inve
       step_spans = walk_spans on p n k u h inverts echelon (value_of es) small g found new
 
 -- the second walk's new row is 0 over every pivot
-pub second_clear : (p n k : ℕ) (u : Upper) (h : ℕ → ℕ) → Inverts p → Echelon p n k u h → (es : List Entry) → CleanRow p n es → {g : ℕ} → (step true p n k u es).answer ≡ Accepted g → (j : ℕ) → j < n → (pivot_at u.pivots j ≡ mark → ⊥) → value_of (step true p n k u es).u j ≡ 0
+pub second_clear : (p n k : ℕ) (u : Upper) (h : ℕ → ℕ) → Inverts p → Echelon p n k u h → (es : List Entry) → CleanRow p n es → {g : ℕ} → (step true p n k u es).answer ≡ Some g → (j : ℕ) → j < n → (pivot_at u.pivots j ≡ mark → ⊥) → value_of (step true p n k u es).u j ≡ 0
 second_clear p n k u h inverts echelon es row {g} e j l m =
     ap (λ (t : Taken). value_of t.u j) (adds true p n k u h inverts echelon es row e)
     ∙ new_value inverts (walk_sums true p n u (value_of es) less n (omega arith)).small (accepted_begins true p n k u h echelon (value_of es) less g (found true p n k u h inverts echelon es row e)) j l

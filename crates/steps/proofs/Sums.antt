@@ -1,5 +1,6 @@
 -- At each column of a walk the row is L's row so far times U, and what is left, modulo p.
 -- Assumes nothing.
+use Rattle.std.specs.Prelude.{None}
 use mathlib.Core.Path.{◌≡◌, sym, ap, ◌∙◌}
 use mathlib.Core.Bool.{Bool}
 use mathlib.Core.List.{[]}
@@ -9,7 +10,6 @@ use native.Mathlib.Omega.{arith}
 use Rattle.lists.specs.Sum.{Σ}
 use Rattle.sparse.specs.Rows.{entry}
 use Rattle.walk.specs.Step.{Upper, pivot_at, Way, way, subtract, accept, climb}
-use Rattle.walk.specs.declared.Answer.TheVariants.{None}
 use Rattle.steps.specs.Rows.{times}
 use Rattle.steps.proofs.Cases.{Cases, at_cases}
 use Rattle.steps.proofs.Entries.{times_more}

@@ -1,11 +1,9 @@
 -- Rows taken one after another from a fresh start, and which of them were accepted.
-use Rattle.std.specs.Prelude.{◌≡◌, ℕ, ◌≤◌, ◌<◌, Bool, not, ◌||◌, cond, List, [], ◌∷◌, ◌++◌, map, eqb, length, get_or, set}
+use Rattle.std.specs.Prelude.{◌≡◌, ℕ, ◌≤◌, ◌<◌, Bool, not, ◌||◌, cond, List, [], ◌∷◌, ◌++◌, map, eqb, length, get_or, set, None, Some}
 use Rattle.lists.specs.Find.{keep}
 use Rattle.sparse.specs.Pivots.{mark}
 use Rattle.sparse.specs.Rows.{Entry}
-use Rattle.walk.specs.Step.{Upper, pivot_at, is_none, Taken, taken, step}
-use Rattle.walk.specs.declared.Answer.{Answer}
-use Rattle.walk.specs.declared.Answer.TheVariants.{Accepted, None}
+use Rattle.walk.specs.Step.{Upper, pivot_at, is_none, Taken, taken, step, Answer}
 use Rattle.steps.specs.Rows.{value_of, CleanRow}
 use Rattle.steps.specs.Setting.{Grown, with_last}
 
@@ -42,12 +40,12 @@ pub record NoPivots (n : ℕ) (u : Upper) : Type 0 where
 -- U, which has k rows, before a row is taken and after, by its answer
 pub data Next (on : Bool) (p n k : ℕ) (u : Upper) (es : List Entry) : Answer → Upper → Type 0 where
   stays : (answered on p n k u es).answer ≡ None → Next on p n k u es None u
-  grows : (g : ℕ) (v : Upper) → (answered on p n k u es).answer ≡ Accepted g → Grown n k g u (answered on p n k u es).u v → Next on p n k u es (Accepted g) v
+  grows : (g : ℕ) (v : Upper) → (answered on p n k u es).answer ≡ Some g → Grown n k g u (answered on p n k u es).u v → Next on p n k u es (Some g) v
 
 -- U, which has k rows, with a new row where it was accepted
 unfoldable pub placed : ℕ → Upper → List Entry → Answer → Upper
 placed k u new None = u
-placed k u new (Accepted g) = record { value = with_last k (value_of new) u.value; pivots = set u.pivots g k }
+placed k u new (Some g) = record { value = with_last k (value_of new) u.value; pivots = set u.pivots g k }
 
 -- U after one row more
 unfoldable pub extended : ℕ → Upper → Taken → Upper

@@ -1,13 +1,13 @@
 -- Loops that gather: what they have at each turn.
 -- Assumes nothing.
-use mathlib.Core.Path.{◌≡◌, refl, sym, ap, ◌∙◌}
+use mathlib.Core.Path.{◌≡◌, sym, ap, ◌∙◌}
 use mathlib.Core.Bool.{Bool, true, false, not, and-false}
 use mathlib.Core.List.{List, [], ◌∷◌, ◌++◌}
 use Prim.Native.Nat.{ℕ, ◌+◌, ◌*◌, ◌%◌, ◌≤◌, ◌<◌}
 use native.Mathlib.Numerals.{add-one}
 use native.Mathlib.Omega.{arith}
 use borrow.Author.Tests.{eq-eqb}
-use lib.ListN.{length, set, get_or, take, length-append, length-set, length-map, get_or-map}
+use lib.ListN.{length, set, get_or, take, length-append, length-map, get_or-map}
 use Rattle.lists.specs.Gather.{gather}
 use Rattle.lists.specs.Onto.{◌onto◌}
 use Rattle.lists.proofs.Gathers.{gather_hit, gather_miss, gather_skip, gather_few}
@@ -18,24 +18,22 @@ use Rattle.storing.specs.declared.Part.{Part}
 use Rattle.storing.specs.declared.Part.TheVariants.{Row, Multiple, Column}
 
 -- what stands below `col` is written
-pub record Gathered (k : ℕ → Bool) (f : ℕ → ℕ) (b : ℕ) (out₀ out : List ℕ) (len col : ℕ) : Type 0 where
-  pub within : col ≤ b
+pub record Gathered (k : ℕ → Bool) (f : ℕ → ℕ) (out₀ out : List ℕ) (len col : ℕ) : Type 0 where
   pub many : len ≡ length (gather k f col)
-  pub long : length out ≡ length out₀
   pub front : out ≡ gather k f col onto out₀
 
-module _ (k : ℕ → Bool) (f : ℕ → ℕ) (b : ℕ) (out₀ : List ℕ) where
-  pub gathered_none : (a : ℕ) → a ≤ b → ((j : ℕ) → j < a → k j ≡ false) → Gathered k f b out₀ out₀ 0 a
-  unfolding gather
-  gathered_none a h none =
-      let e : gather k f a ≡ [] = gather_skip k f 0 a (omega arith) (λ j l. none j) in
-      record { within = h; many = sym (ap length e); long = refl; front = sym (ap (λ (x : List ℕ). x onto out₀) e ∙ onto_nil out₀) }
+pub gathered_none : (k : ℕ → Bool) (f : ℕ → ℕ) (out₀ : List ℕ) (a : ℕ) → ((j : ℕ) → j < a → k j ≡ false) → Gathered k f out₀ out₀ 0 a
+unfolding gather
+gathered_none k f out₀ a none =
+    let e : gather k f a ≡ [] = gather_skip k f 0 a (omega arith) (λ j l. none j) in
+    record { many = sym (ap length e); front = sym (ap (λ (x : List ℕ). x onto out₀) e ∙ onto_nil out₀) }
 
-  module _ {out : List ℕ} {len col : ℕ} (g : Gathered k f b out₀ out len col) (low : col < b) where
-    pub gathered_miss : k col ≡ false → Gathered k f b out₀ out len (col + 1)
+module _ (k : ℕ → Bool) (f : ℕ → ℕ) (b : ℕ) (out₀ : List ℕ) where
+  module _ {out : List ℕ} {len col : ℕ} (g : Gathered k f out₀ out len col) (low : col < b) where
+    pub gathered_miss : k col ≡ false → Gathered k f out₀ out len (col + 1)
     gathered_miss e =
         let same : gather k f (col + 1) ≡ gather k f col = ap (gather k f) (add-one col) ∙ gather_miss k f col e in
-        record { within = omega arith; many = g.many ∙ sym (ap length same); long = g.long; front = g.front ∙ sym (ap (λ (x : List ℕ). x onto out₀) same) }
+        record { many = g.many ∙ sym (ap length same); front = g.front ∙ sym (ap (λ (x : List ℕ). x onto out₀) same) }
 
     module _ (room : length (gather k f b) ≤ length out₀) (here : k col ≡ true) where
       more : gather k f (col + 1) ≡ gather k f col ++ (f col ∷ [])
@@ -47,11 +45,9 @@ module _ (k : ℕ → Bool) (f : ℕ → ℕ) (b : ℕ) (out₀ : List ℕ) wher
       pub gathered_slot : len < length out₀
       gathered_slot = omega (arith, gather_few k f (col + 1) b (omega arith), longer)
 
-      pub gathered_hit : {a : ℕ} → a ≡ f col → Gathered k f b out₀ (set out len a) (len + 1) (col + 1)
+      pub gathered_hit : {a : ℕ} → a ≡ f col → Gathered k f out₀ (set out len a) (len + 1) (col + 1)
       gathered_hit {a} e = record {
-        within = omega arith;
         many = sym longer;
-        long = length-set out len a ∙ g.long;
         front =
             ap (λ (x : List ℕ). set x len a) g.front
             ∙ onto_more (gather k f col) out₀ len a (sym g.many) gathered_slot
@@ -59,8 +55,8 @@ module _ (k : ℕ → Bool) (f : ℕ → ℕ) (b : ℕ) (out₀ : List ℕ) wher
             ∙ sym (ap (λ (x : List ℕ). x onto out₀) more);
       }
 
-  pub gathered_all : {out : List ℕ} {len col : ℕ} → Gathered k f b out₀ out len col → b ≤ col → (len ≡ length (gather k f b)) × (out ≡ gather k f b onto out₀)
-  gathered_all {out} {len} {col} g h = let e : col ≡ b = omega (arith, g.within) in (g.many ∙ ap (λ (i : ℕ). length (gather k f i)) e, g.front ∙ ap (λ (i : ℕ). gather k f i onto out₀) e)
+  pub gathered_all : {out : List ℕ} {len col : ℕ} → Gathered k f out₀ out len col → col ≡ b → (len ≡ length (gather k f b)) × (out ≡ gather k f b onto out₀)
+  gathered_all g e = (g.many ∙ ap (λ (i : ℕ). length (gather k f i)) e, g.front ∙ ap (λ (i : ℕ). gather k f i onto out₀) e)
 
 -- `scale`: so many entries written
 module _ (p f : ℕ) (dense cols out₀ : List ℕ) (room : length cols ≤ length out₀) where

@@ -24,15 +24,11 @@ pub fn gather(
     ensures { counted result out.new ≡ counted (length (gathered part pivots.now dense.now limit to)) (gathered part pivots.now dense.now limit to onto out.old) }
 {
     let mut len = 0;
-    let mut col = from;
-    while col < to {
-        let here = col;
-        col += 1;
-        if !is_standing(part, pivots, dense, limit, here) {
-            continue;
+    for col in from..to {
+        if is_standing(part, pivots, dense, limit, col) {
+            out[len] = telling(part, pivots, dense, col);
+            len += 1;
         }
-        out[len] = telling(part, pivots, dense, here);
-        len += 1;
     }
     len
 }
@@ -79,10 +75,7 @@ pub fn scale(p: u32, f: u32, dense: &[u32], cols: &[u32], out: &mut [u32])
     requires { Scales p f dense.now cols.now out.old }
     ensures { out.new ≡ scaled p f dense.now cols.now onto out.old }
 {
-    let mut k = 0;
-    while k < cols.len() {
-        let col = cols[k] as usize;
-        out[k] = mul(p, dense[col], f);
-        k += 1;
+    for (k, col) in cols.iter().enumerate() {
+        out[k] = mul(p, dense[*col as usize], f);
     }
 }

@@ -49,10 +49,7 @@ pub fn write_l(
 fn value_at(dense: &[u32], col: usize) -> u32
     ensures { result ≡ get_or dense.now col 0 }
 {
-    if col < dense.len() {
-        return dense[col];
-    }
-    0
+    dense.get(col).copied().unwrap_or(0)
 }
 
 // Writes a part of L's row, with `last` at the end where the row has a head.

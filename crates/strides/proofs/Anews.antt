@@ -1,5 +1,6 @@
 -- The public calls that start afresh: `new`, and those that then take all rows, a run of single steps.
 -- Assumes nothing.
+use Rattle.std.specs.Prelude.{Ok}
 use mathlib.Core.Path.{◌≡◌, refl, sym}
 use mathlib.Core.Bool.{Bool, true, false}
 use mathlib.Core.List.{List, []}
@@ -13,7 +14,6 @@ use Rattle.sparse.specs.Matrix.{Matrix}
 use Rattle.sparse.specs.Rows.{rows_of}
 use Rattle.sparse.specs.Tests.{size_test}
 use Rattle.sparse.specs.declared.Refusal.TheVariants.{Mismatch}
-use Rattle.sparse.specs.declared.Tested.TheVariants.{Good}
 use Rattle.sparse.proofs.Firsts.{refuse_false, lowest_next, lowest_last}
 use Rattle.state.specs.Asks.{Opened}
 use Rattle.state.specs.Fresh.{counts, opening, new_test, new}
@@ -44,7 +44,7 @@ use Rattle.strides.proofs.Folds.{Ends, rows_strides}
 use Rattle.strides.proofs.Runs.{appended_few}
 
 -- `new` is a fresh start
-pub new_begun : (p n : ℕ) (mode : Mode) (m : Memory) → new_test p n mode (opening m.u_ptrs m.l_ptrs m.pivots) ≡ Good → Begun mode p n (opened m (new p n mode (opening m.u_ptrs m.l_ptrs m.pivots)).memory)
+pub new_begun : (p n : ℕ) (mode : Mode) (m : Memory) → new_test p n mode (opening m.u_ptrs m.l_ptrs m.pivots) ≡ Ok tt → Begun mode p n (opened m (new p n mode (opening m.u_ptrs m.l_ptrs m.pivots)).memory)
 unfolding new unless
 new_begun p n mode m good = rw good (unfold restarted in begun m good)
 
@@ -56,7 +56,7 @@ module _ {p : ℕ} {mode : Mode} {a : Matrix} {w : Night} (anew : Anew p mode a 
   pub anew_begun : Begun mode p a.ncols (restarted mode a.ncols w.memory)
   unfolding new_test size_test
   anew_begun =
-      let size : size_test 65536 0 a.ncols 0 ≡ Good = refuse_false _ _ (rw (le-ltb 1024 a.ncols opens.wide)) in
+      let size : size_test 65536 0 a.ncols 0 ≡ Ok tt = refuse_false _ _ (rw (le-ltb 1024 a.ncols opens.wide)) in
       let table = refuse_false _ Mismatch (le-ltb (length w.memory.pivots) a.ncols anew.table) in
       begun w.memory (sym (lowest_next _ refl opens.modulus (lowest_next _ refl size (lowest_next _ refl table (lowest_last (sym anew.room))))))
 
@@ -67,7 +67,7 @@ module _ {p : ℕ} {mode : Mode} {a : Matrix} {w : Night} (anew : Anew p mode a 
   anew_ends on check d = rows_strides on check d (counts mode p a.ncols 0 0 0 0) (restarted mode a.ncols w.memory) (rows_of a) (rows_clean p a anew.rows) w.answers
 
 -- by `from_matrix` and `from_matrix_check_dependent`, whatever ends it
-module _ (p : ℕ) (mode : Mode) (a : Matrix) (w : Night) (good : from_matrix_test p mode a w.dense w.answers w.memory.u_ptrs w.memory.l_ptrs w.memory.pivots ≡ Good) where
+module _ (p : ℕ) (mode : Mode) (a : Matrix) (w : Night) (good : from_matrix_test p mode a w.dense w.answers w.memory.u_ptrs w.memory.l_ptrs w.memory.pivots ≡ Ok tt) where
   pub from_matrix_begun : Begun mode p a.ncols (restarted mode a.ncols w.memory)
   from_matrix_begun = anew_begun (from_anew p mode a w good)
 
@@ -96,7 +96,7 @@ valued_run d p n (Short s) l_vals l_ptrs pivots = refl
 valued_run d p n (Unfolded why) l_vals l_ptrs pivots = refl
 
 -- by `det`, whatever ends it; it is lent no answer memory
-module _ (p : ℕ) (a : Matrix) (o : Lists) (good : det_test p a o.dense o.memory.u_ptrs o.memory.l_ptrs o.memory.pivots ≡ Good) where
+module _ (p : ℕ) (a : Matrix) (o : Lists) (good : det_test p a o.dense o.memory.u_ptrs o.memory.l_ptrs o.memory.pivots ≡ Ok tt) where
   pub det_begun : Begun Full p a.ncols (restarted Full a.ncols o.memory)
   det_begun = anew_begun (det_anew p a o good)
 

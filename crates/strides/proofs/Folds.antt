@@ -1,24 +1,22 @@
 -- A fold of rows is a run of single steps over the first of them; a check for dependence that goes on has accepted them all.
 -- Assumes nothing.
+use Rattle.std.specs.Prelude.{Err, None, Ok, Some}
 use mathlib.Core.Path.{◌≡◌, refl, sym, ap, subst, ◌∙◌}
-use mathlib.Core.Bool.{Bool, true, false, not, ◌&&◌, cond}
+use mathlib.Core.Bool.{Bool, true, false, not, cond}
 use mathlib.Core.List.{List, [], ◌∷◌, ◌++◌, map-append}
 use Prim.Native.Nat.{ℕ, suc, ◌+◌, ◌≤◌, ◌<◌}
 use native.Mathlib.Omega.{arith}
-use lib.ListN.{length, get_or, take, set, length-append, length-map}
-use lib.Seq.{take-append_seam, append_snoc}
+use lib.ListN.{length, get_or, set, length-append, length-map}
+use lib.Seq.{append_snoc}
+use Rattle.sparse.specs.Refusals.{Tested}
 use Rattle.lists.specs.Find.{keep}
 use Rattle.lists.specs.Onto.{◌onto◌}
 use Rattle.lists.proofs.Ontos.{onto_nil, onto_more}
 use Rattle.sparse.specs.Lent.{Outcome, outcome, unless}
 use Rattle.sparse.specs.Rows.{Entry}
-use Rattle.sparse.specs.declared.Tested.{Tested}
-use Rattle.sparse.specs.declared.Tested.TheVariants.{Good, Refused as Unfit}
 use Rattle.state.specs.Memory.{Memory}
 use Rattle.state.specs.declared.Counts.{Counts}
-use Rattle.walk.specs.Step.{is_none}
-use Rattle.walk.specs.declared.Answer.{Answer}
-use Rattle.walk.specs.declared.Answer.TheVariants.{Accepted, None}
+use Rattle.walk.specs.Step.{is_none, Answer}
 use Rattle.steps.specs.History.{Told, told, accepted}
 use Rattle.steps.specs.Rows.{CleanRow}
 use Rattle.steps.proofs.Histories.{accepted_same, accepted_more}
@@ -46,7 +44,7 @@ accepted_few (t ∷ ts) = go (not (is_none t.answer)) (accepted_few ts)
     go true l = omega arith
     go false l = omega arith
 
-accepted_goes : (check : Bool) (g : ℕ) (s : Run) → ended check (Accepted g) s ≡ Taken s
+accepted_goes : (check : Bool) (g : ℕ) (s : Run) → ended check (Some g) s ≡ Taken s
 unfolding ended is_none
 accepted_goes true g s = refl
 accepted_goes false g s = refl
@@ -80,7 +78,7 @@ module _ (on check : Bool) (d : Run) (p n : ℕ) (c : Counts) (m : Memory) (b : 
   over_end rs later x w ts e h = rw (rows_over on check rs (outcome x w) e) (held_ends ts later x w h)
 
   -- one row more
-  module _ (es : List Entry) (row : CleanRow p n es) (r : Run) (w : Written) (ts : List Told) (h : Held ts (Taken r) w) (room : room_asked r.counts es w.memory ≡ Good) where
+  module _ (es : List Entry) (row : CleanRow p n es) (r : Run) (w : Written) (ts : List Told) (h : Held ts (Taken r) w) (room : room_asked r.counts es w.memory ≡ Ok tt) where
     abbrev a : Answer
     a = (row_step on r.counts es w.memory).answer.answer
 
@@ -105,11 +103,11 @@ module _ (on check : Bool) (d : Run) (p n : ℕ) (c : Counts) (m : Memory) (b : 
     next_all : (v : Answer) → check ≡ true → (s : Run) → ((q : Run) → ended check v s ≡ Dependent q → ⊥) → length (accepted ts) ≡ length ts → length (accepted (ts ++ (told es v ∷ []))) ≡ length (ts ++ (told es v ∷ []))
     unfolding ended is_none
     next_all None e s goes l = absurd (goes s (rw e))
-    next_all (Accepted g) e s goes l = ap length (accepted_more ts es g) ∙ length-append (accepted ts) (es ∷ []) ∙ ap (λ (k : ℕ). k + 1) l ∙ sym (length-append ts (told es (Accepted g) ∷ []))
+    next_all (Some g) e s goes l = ap length (accepted_more ts es g) ∙ length-append (accepted ts) (es ∷ []) ∙ ap (λ (k : ℕ). k + 1) l ∙ sym (length-append ts (told es (Some g) ∷ []))
 
     next_some : (v : Answer) (s q : Run) → ended check v s ≡ Dependent q → length (accepted (ts ++ (told es v ∷ []))) < length (ts ++ (told es v ∷ []))
     next_some None s q e = omega (arith, ap length (accepted_same ts es), accepted_few ts, length-append ts (told es None ∷ []))
-    next_some (Accepted g) s q e = absurd (apart (sym (accepted_goes check g s) ∙ e))
+    next_some (Some g) s q e = absurd (apart (sym (accepted_goes check g s) ∙ e))
 
     next_held : Held (ts ++ (t ∷ [])) after.answer after.memory
     unfolding counted run_in
@@ -134,8 +132,8 @@ module _ (on check : Bool) (d : Run) (p n : ℕ) (c : Counts) (m : Memory) (b : 
       more_rows = ts ++ (told es (row_step on r.counts es w.memory).answer.answer ∷ [])
 
       go : (f : Tested) → room_asked r.counts es w.memory ≡ f → Ends (rows_of_told ts ++ (es ∷ rs)) (take_rows on check rs (unless (λ why. Stopped (stop why r)) f w after))
-      go (Unfit why) e = over_end rs (es ∷ rs) (Stopped (stop why r)) w ts refl (record { strides = h.strides; many = h.many; numbers = h.numbers; all = λ e goes. h.all e (λ q. apart); some = λ q z. let y : ◌≡◌ {A = ℕ} 0 1 = cc in absurd (omega arith) })
-      go Good e =
+      go (Err why) e = over_end rs (es ∷ rs) (Stopped (stop why r)) w ts refl (record { strides = h.strides; many = h.many; numbers = h.numbers; all = λ e goes. h.all e (λ q. apart); some = λ q z. let y : ◌≡◌ {A = ℕ} 0 1 = cc in absurd (omega arith) })
+      go (Ok _) e =
           subst (λ (all : List (List Entry)). Ends all (take_rows on check rs after)) (ap (λ (xs : List (List Entry)). xs ++ rs) (map-append _ ts _) ∙ append_snoc (rows_of_told ts) es rs)
           (rest after.answer after.memory more_rows (next_held es row r w ts h e))
 

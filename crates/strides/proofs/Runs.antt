@@ -1,5 +1,6 @@
 -- Runs of single steps: one after the other, the rows of each clean; and the state at a fresh start.
 -- Assumes nothing.
+use Rattle.std.specs.Prelude.{None}
 use mathlib.Core.Path.{◌≡◌, sym, ap, subst, ◌∙◌}
 use mathlib.Core.List.{List, [], ◌∷◌, ◌++◌, append-nil, append_assoc}
 use Prim.Native.Nat.{ℕ, ◌≤◌, ◌<◌, min}
@@ -13,7 +14,6 @@ use Rattle.state.specs.Fresh.{counts, opening}
 use Rattle.state.specs.Memory.{Memory}
 use Rattle.state.specs.declared.Counts.{Counts}
 use Rattle.state.specs.declared.Mode.{Mode}
-use Rattle.walk.specs.declared.Answer.TheVariants.{None}
 use Rattle.steps.specs.History.{Told, told}
 use Rattle.steps.specs.Rows.{CleanRow}
 use Rattle.stepping.specs.Asks.{Stands}

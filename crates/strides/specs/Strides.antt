@@ -1,8 +1,7 @@
 -- Rows taken one after the other by the single step: what each call that takes rows comes to.
-use Rattle.std.specs.Prelude.{◌≡◌, Bool, List, [], ◌∷◌, ◌++◌, map, ℕ, ◌≤◌, length, take}
+use Rattle.std.specs.Prelude.{◌≡◌, Bool, List, [], ◌∷◌, ◌++◌, map, ℕ, ◌≤◌, length, take, Ok}
 use Rattle.lists.specs.Onto.{◌onto◌}
 use Rattle.sparse.specs.Rows.{Entry}
-use Rattle.sparse.specs.declared.Tested.TheVariants.{Good}
 use Rattle.state.specs.Fresh.{opening, new_test}
 use Rattle.state.specs.Memory.{Memory}
 use Rattle.state.specs.declared.Counts.{Counts}
@@ -17,12 +16,12 @@ use Rattle.batches.specs.Batch.{restarted}
 
 -- the lists after a fresh start: its tests pass
 pub data Begun (mode : Mode) (p n : ℕ) : Memory → Type 0 where
-  begun : (m : Memory) → new_test p n mode (opening m.u_ptrs m.l_ptrs m.pivots) ≡ Good → Begun mode p n (restarted mode n m)
+  begun : (m : Memory) → new_test p n mode (opening m.u_ptrs m.l_ptrs m.pivots) ≡ Ok tt → Begun mode p n (restarted mode n m)
 
 -- rows taken one after the other by the single step, in either walk, where there is room: from these counts and lists to those
 pub data Strides (p n : ℕ) (c : Counts) (m : Memory) : List Told → Counts → Memory → Type 0 where
   still : Strides p n c m [] c m
-  stride : (ts : List Told) (d : Counts) (k : Memory) → Strides p n c m ts d k → (on : Bool) (es : List Entry) → CleanRow p n es → room_asked d es k ≡ Good
+  stride : (ts : List Told) (d : Counts) (k : Memory) → Strides p n c m ts d k → (on : Bool) (es : List Entry) → CleanRow p n es → room_asked d es k ≡ Ok tt
       → Strides p n c m (ts ++ (told es (row_step on d es k).answer.answer ∷ [])) (row_step on d es k).answer.counts (row_step on d es k).memory
 
 -- the rows

@@ -1,5 +1,6 @@
 -- A row taken: what each call on the way asks for, and what is seen at the end.
 -- Assumes nothing.
+use Rattle.std.specs.Prelude.{None, Some}
 use mathlib.Core.Path.{◌≡◌, sym, ap, ap₂, subst, ◌∙◌}
 use mathlib.Core.Bool.{Bool, true, false, cond}
 use mathlib.Core.List.{List, []}
@@ -24,7 +25,6 @@ use Rattle.walk.specs.Dense.{spread, wiped}
 use Rattle.walk.specs.Left.{rest_of, limit_of, LeftFrom}
 use Rattle.walk.specs.Step.{way, climb, Taken, taken, divided, step, walked}
 use Rattle.walk.specs.Step as S
-use Rattle.walk.specs.declared.Answer.TheVariants.{Accepted, None}
 use Rattle.steps.specs.Rows.{value_of}
 use Rattle.steps.specs.Setting.{Inverts}
 use Rattle.steps.proofs.Copies.{step_walked}
@@ -110,11 +110,11 @@ module _ {on : Bool} {p n : ℕ} {mode : Mode} {rank uf lr lf : ℕ} {cols vals 
 
       -- a row with a head
       module _ (low : head < n) where
-        took : step on p n rank above es ≡ taken (Accepted head) (divided p n (rest_of u.pivots limit walkd) head) (l_row u.pivots walkd limit head rank)
+        took : step on p n rank above es ≡ taken (Some head) (divided p n (rest_of u.pivots limit walkd) head) (l_row u.pivots walkd limit head rank)
         unfolding S.upper
         took = stepped ∙ walked_accepted on p n rank above s.heads s.echelon es small (get_or cols 0 0) loaded walkd head loaded_at end low
 
-        answered : (step on p n rank above es).answer ≡ Accepted head
+        answered : (step on p n rank above es).answer ≡ Some head
         answered = ap (λ (t : Taken). t.answer) took
 
         same_long : length (divided p n (rest_of u.pivots limit walkd) head) ≡ length (step on p n rank above es).u
@@ -235,7 +235,7 @@ module _ {on : Bool} {p n : ℕ} {mode : Mode} {rank uf lr lf : ℕ} {cols vals 
               → shown (walked_to head more len) v m clear ≡ storing mode (length dense) rank uf lr lf (step on p (length dense) rank above es).answer (step on p (length dense) rank above es) u l
           unfolding Rattle.taking.specs.Rows.storing
           takes_accepted h {len} {more} {m} {v} made grown =
-              let t : step on p (length dense) rank above es ≡ taken (Accepted head) (divided p (length walkd) (rest_of u.pivots lim walkd) head) (l_row u.pivots walkd lim head rank) = ap (λ (k : ℕ). step on p k rank above es) long ∙ took (omega (arith, long)) ∙ ap₂ (λ (k i : ℕ). taken (Accepted head) (divided p i (rest_of u.pivots k walkd) head) (l_row u.pivots walkd k head rank)) (sym same_limit) (sym walkd_long) in
+              let t : step on p (length dense) rank above es ≡ taken (Some head) (divided p (length walkd) (rest_of u.pivots lim walkd) head) (l_row u.pivots walkd lim head rank) = ap (λ (k : ℕ). step on p k rank above es) long ∙ took (omega (arith, long)) ∙ ap₂ (λ (k i : ℕ). taken (Some head) (divided p i (rest_of u.pivots k walkd) head) (l_row u.pivots walkd k head rank)) (sym same_limit) (sym walkd_long) in
               let a : len ≡ kept_entries mode (l_row u.pivots walkd lim head rank) = ap (λ (o : Outcome ℕ Lower). o.answer) made in
               let b : m ≡ with_l mode lr lf (l_row u.pivots walkd lim head rank) l = ap (λ (o : Outcome ℕ Lower). o.memory) made in
               let d : more ≡ length (divided p (length walkd) (rest_of u.pivots lim walkd) head) = ap (λ (o : Outcome ℕ Upper). o.answer) grown in

@@ -1,5 +1,6 @@
 -- What a walk left in dense memory is what document 01's walk comes to.
 -- Assumes nothing.
+use Rattle.std.specs.Prelude.{None, Some}
 use mathlib.Core.Path.{◌≡◌, refl, sym, ap, ap₂, ◌∙◌}
 use mathlib.Core.Bool.{Bool, false, not, and-false}
 use mathlib.Core.List.{List, [], ◌∷◌, ◌++◌, append-nil}
@@ -16,7 +17,6 @@ use Rattle.sparse.specs.Pivots.{mark}
 use Rattle.sparse.specs.Rows.{Entry, entry}
 use Rattle.walk.specs.Left.{over, rest_of, multiples, answer_of, limit_of, LeftFrom}
 use Rattle.walk.specs.Step.{Upper, pivot_at, Way, way, climb, taken, divided, ended, start, walked}
-use Rattle.walk.specs.declared.Answer.TheVariants.{Accepted, None}
 use Rattle.walk.proofs.Same.{Same, climb_same}
 use Rattle.walk.proofs.Ways.{rest_free}
 use Rattle.steps.specs.Rows.{value_of}
@@ -58,7 +58,7 @@ module _ (on : Bool) (p n rank : ℕ) (u : Upper) (heads : ℕ → ℕ) (echelon
 
   -- a row with a head
   module _ (low : head < n) where
-    found : w.answer ≡ Accepted head
+    found : w.answer ≡ Some head
     unfolding answer_of
     found = answers ∙ rw (lt-ltb head n low)
 
@@ -86,7 +86,7 @@ module _ (on : Bool) (p n rank : ℕ) (u : Upper) (heads : ℕ → ℕ) (echelon
         go (yes l) = absurd (head_stands (end.before head l))
         go (no l) = omega arith
 
-    pub walked_accepted : walked on p n rank u es ≡ taken (Accepted head) (divided p n (rest_of u.pivots limit dense) head) (l_row u.pivots dense limit head rank)
+    pub walked_accepted : walked on p n rank u es ≡ taken (Some head) (divided p n (rest_of u.pivots limit dense) head) (l_row u.pivots dense limit head rank)
     unfolding walked start ended l_row
     walked_accepted =
         let a : divided p n w.rest head ≡ divided p n (rest_of u.pivots limit dense) head = divided_same p n w.rest (rest_of u.pivots limit dense) head low rests in

@@ -1,5 +1,5 @@
 -- One row taken by steps 3 and 4: what is seen afterwards.
-use Rattle.std.specs.Prelude.{◌≡◌, Bool, true, ℕ, ◌+◌, ◌≤◌, ◌<◌, List, length}
+use Rattle.std.specs.Prelude.{◌≡◌, Bool, true, ℕ, ◌+◌, ◌≤◌, ◌<◌, List, length, None, Some}
 use Rattle.lists.specs.Table.{table}
 use Rattle.field.specs.Prime.{is_modulus}
 use Rattle.sparse.specs.Rows.{entries}
@@ -7,10 +7,8 @@ use Rattle.state.specs.Fresh.{keeps}
 use Rattle.state.specs.declared.Mode.{Mode}
 use Rattle.state.specs.declared.Mode.TheVariants.{Full}
 use Rattle.walk.specs.Asks.{Pivoted}
-use Rattle.walk.specs.Step.{Taken}
+use Rattle.walk.specs.Step.{Taken, Answer}
 use Rattle.walk.specs.Step as S
-use Rattle.walk.specs.declared.Answer.{Answer}
-use Rattle.walk.specs.declared.Answer.TheVariants.{Accepted, None}
 use Rattle.steps.specs.Rows.{CleanRow}
 use Rattle.steps.specs.Setting.{Echelon}
 use Rattle.taking.specs.Stores.{Upper, with_u, Lower, with_l, kept_entries}
@@ -31,7 +29,7 @@ walked_to head u_len l_len = record { head = head; u_len = u_len; l_len = l_len 
 
 -- what a row comes to, stored: accepted, a row more in U and in L; None, a row more in L. Dense memory is zero
 unfoldable pub storing : Mode → ℕ → ℕ → ℕ → ℕ → ℕ → Answer → Taken → Upper → Lower → Shown
-storing mode n rank u_fill l_rows l_fill (Accepted g) t u l =
+storing mode n rank u_fill l_rows l_fill (Some g) t u l =
     shown (walked_to g (length t.u) (kept_entries mode t.l)) (with_u rank u_fill g t.u u) (with_l mode l_rows l_fill t.l l) (table n (λ j. 0))
 storing mode n rank u_fill l_rows l_fill None t u l = shown (walked_to n 0 (kept_entries mode t.l)) u (with_l mode l_rows l_fill t.l l) (table n (λ j. 0))
 

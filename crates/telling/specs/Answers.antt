@@ -1,7 +1,6 @@
 -- The number that lent answer memory gets for a row's answer.
-use Rattle.std.specs.Prelude.{ℕ}
-use Rattle.walk.specs.declared.Answer.{Answer}
-use Rattle.walk.specs.declared.Answer.TheVariants.{Accepted, None}
+use Rattle.walk.specs.Step.{Answer}
+use Rattle.std.specs.Prelude.{ℕ, None, Some}
 
 -- None's number
 unfoldable pub none : ℕ
@@ -9,5 +8,5 @@ none = 4294967295
 
 -- the pivot column, or None's number
 unfoldable pub number : Answer → ℕ
-number (Accepted c) = c
+number (Some c) = c
 number None = none

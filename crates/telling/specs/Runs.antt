@@ -2,8 +2,7 @@
 use Rattle.std.specs.Prelude.{ℕ, Bool, ◌&&◌, cond}
 use Rattle.sparse.specs.declared.Refusal.{Refusal}
 use Rattle.state.specs.declared.Counts.{Counts}
-use Rattle.walk.specs.Step.{is_none}
-use Rattle.walk.specs.declared.Answer.{Answer}
+use Rattle.walk.specs.Step.{is_none, Answer}
 use Rattle.telling.specs.declared.Reduced.{Reduced}
 use Rattle.telling.specs.declared.Reduced.TheVariants.{Taken, Dependent}
 use Rattle.telling.specs.declared.Run.{Run}

@@ -1,5 +1,6 @@
 -- Worked examples: what the definitions say of small matrices, a vector and single numbers.
 -- Assumes nothing.
+use Rattle.std.specs.Prelude.{Err, Ok}
 use mathlib.Core.Path.{◌≡◌, refl}
 use mathlib.Core.List.{[], ◌∷◌, flatten}
 use Rattle.lists.specs.Onto.{◌onto◌}
@@ -9,10 +10,8 @@ use Rattle.sparse.specs.Matrix.{matrix, part, row}
 use Rattle.sparse.specs.Refusals.{refuse, lowest, ◌else◌}
 use Rattle.sparse.specs.Rows.{entries, rows_of, row_at}
 use Rattle.sparse.specs.declared.Refusal.TheVariants.{Room}
-use Rattle.sparse.specs.declared.Tested.TheVariants.{Good}
 use Rattle.text.specs.Decimals.{glyph, digits, decimal}
 use Rattle.text.specs.Mma.{piece, commas, mma, matrix_text, vector_text, printing}
-use Rattle.text.specs.declared.Printed.TheVariants.{Bytes, Refused as Unprinted}
 
 -- 0 by 0 is {{},{0,0}}
 pub empty : matrix_text (matrix 0 0 (0 ∷ []) [] []) ≡ 123 ∷ 123 ∷ 125 ∷ 44 ∷ 123 ∷ 48 ∷ 44 ∷ 48 ∷ 125 ∷ 125 ∷ []
@@ -35,10 +34,10 @@ unfolding decimal digits glyph
 largest = refl
 
 -- ten bytes fit where eleven are lent, and the eleventh is kept; where nine are lent they are refused
-pub fits : printing Good (matrix_text (matrix 0 0 (0 ∷ []) [] [])) (9 ∷ 9 ∷ 9 ∷ 9 ∷ 9 ∷ 9 ∷ 9 ∷ 9 ∷ 9 ∷ 9 ∷ 9 ∷ []) ≡ outcome (Bytes 10) (123 ∷ 123 ∷ 125 ∷ 44 ∷ 123 ∷ 48 ∷ 44 ∷ 48 ∷ 125 ∷ 125 ∷ 9 ∷ [])
+pub fits : printing (Ok tt) (matrix_text (matrix 0 0 (0 ∷ []) [] [])) (9 ∷ 9 ∷ 9 ∷ 9 ∷ 9 ∷ 9 ∷ 9 ∷ 9 ∷ 9 ∷ 9 ∷ 9 ∷ []) ≡ outcome (Ok 10) (123 ∷ 123 ∷ 125 ∷ 44 ∷ 123 ∷ 48 ∷ 44 ∷ 48 ∷ 125 ∷ 125 ∷ 9 ∷ [])
 unfolding matrix_text mma commas piece decimal digits glyph table row_at rows_of entries row part flatten printing unless lowest ◌else◌ refuse ◌onto◌
 fits = refl
 
-pub short : printing Good (matrix_text (matrix 0 0 (0 ∷ []) [] [])) (9 ∷ 9 ∷ 9 ∷ 9 ∷ 9 ∷ 9 ∷ 9 ∷ 9 ∷ 9 ∷ []) ≡ outcome (Unprinted Room) (9 ∷ 9 ∷ 9 ∷ 9 ∷ 9 ∷ 9 ∷ 9 ∷ 9 ∷ 9 ∷ [])
+pub short : printing (Ok tt) (matrix_text (matrix 0 0 (0 ∷ []) [] [])) (9 ∷ 9 ∷ 9 ∷ 9 ∷ 9 ∷ 9 ∷ 9 ∷ 9 ∷ 9 ∷ []) ≡ outcome (Err Room) (9 ∷ 9 ∷ 9 ∷ 9 ∷ 9 ∷ 9 ∷ 9 ∷ 9 ∷ 9 ∷ [])
 unfolding matrix_text mma commas piece decimal digits glyph table row_at rows_of entries row part flatten printing unless lowest ◌else◌ refuse ◌onto◌
 short = refl

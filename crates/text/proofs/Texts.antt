@@ -1,5 +1,6 @@
 -- Whole texts: what the writers write is the text of the matrix or the vector, and what a printing call comes to.
 -- Assumes nothing.
+use Rattle.std.specs.Prelude.{Err, Ok}
 use mathlib.Core.Path.{◌≡◌, refl, sym, ap, ◌∙◌}
 use mathlib.Core.List.{List, [], ◌∷◌, ◌++◌, map, flatten, append_assoc}
 use Prim.Native.Nat.{ℕ, ◌≤◌}
@@ -12,19 +13,16 @@ use borrow.Author.Tests.{ltb-false}
 use Rattle.lists.proofs.Tables.{get_or-table, table_ext}
 use Rattle.sparse.specs.Lent.{outcome, unless}
 use Rattle.sparse.specs.Matrix.{Matrix, matrix, part, row}
-use Rattle.sparse.specs.Refusals.{refuse, lowest, ◌else◌}
+use Rattle.sparse.specs.Refusals.{refuse, lowest, ◌else◌, Tested}
 use Rattle.sparse.specs.Rows.{Entry, entries, rows_of, row_at}
 use Rattle.sparse.specs.Tests.{well_formed, one_row, well_formed_vector}
 use Rattle.sparse.specs.declared.Refusal.{Refusal}
 use Rattle.sparse.specs.declared.Refusal.TheVariants.{Room}
-use Rattle.sparse.specs.declared.Tested.{Tested}
-use Rattle.sparse.specs.declared.Tested.TheVariants.{Good, Refused}
 use Rattle.sparse.proofs.Cuts.{small, Laid, formed_laid}
 use Rattle.sparse.proofs.Firsts.{refuse_good, lowest_good}
 use Rattle.text.specs.Asks.{LineAt, RowsAt}
 use Rattle.text.specs.Mma.{piece, mma, matrix_text, vector_text, printing}
 use Rattle.text.specs.Writers.{Wrote, placed, pieces, row_pieces, links, ending}
-use Rattle.text.specs.declared.Printed.TheVariants.{Bytes, Refused as Unprinted}
 use Rattle.text.specs.declared.inside.Line.TheVariants.{Column}
 use Rattle.meaning.proofs.RowLists.{length-entries}
 use Rattle.text.proofs.Pieces.{commas_links}
@@ -54,12 +52,12 @@ vector_text_lem len idcs vals =
     (ap (λ (n : ℕ). take n (entries idcs vals)) (sub-zero (length vals)) ∙ take_all (length vals) (entries idcs vals) (rw length-entries (omega arith)))
 
 -- what passes the tests has at most so many entries
-few_entries : (limit p : ℕ) (m : Matrix) → well_formed limit p m ≡ Good → length m.values ≤ limit
+few_entries : (limit p : ℕ) (m : Matrix) → well_formed limit p m ≡ Ok tt → length m.values ≤ limit
 unfolding well_formed
 few_entries limit p m e = (small limit m.nrows m.ncols (length m.values) (lowest_good _ _ (lowest_good _ _ e).1).0).few
 
 -- so that it can be written
-pub matrix_ask : (p : ℕ) (m : Matrix) → well_formed 65536 p m ≡ Good → RowsAt m.nrows m.row_ptrs m.col_idcs m.values 48
+pub matrix_ask : (p : ℕ) (m : Matrix) → well_formed 65536 p m ≡ Ok tt → RowsAt m.nrows m.row_ptrs m.col_idcs m.values 48
 matrix_ask p m e =
     let laid : Laid m = formed_laid 65536 p m e in
     record {
@@ -69,7 +67,7 @@ matrix_ask p m e =
       reach = record { fits = omega (arith, few_entries 65536 p m e) };
     }
 
-pub vector_ask : (p len : ℕ) (idcs vals : List ℕ) → well_formed_vector 65536 p len idcs vals ≡ Good → LineAt 0 (length vals) idcs vals 48
+pub vector_ask : (p len : ℕ) (idcs vals : List ℕ) → well_formed_vector 65536 p len idcs vals ≡ Ok tt → LineAt 0 (length vals) idcs vals 48
 unfolding well_formed_vector one_row
 vector_ask p len idcs vals e =
     let many : length vals ≤ 65536 = few_entries 65536 p (one_row len idcs vals) e in
@@ -87,25 +85,25 @@ nowhere {none = []} w = refl
 nowhere {none = x ∷ xs} w = absurd (omega (arith, wrote_length w))
 
 -- a call that prints, as its code goes: it is refused by its tests,
-pub refused_tests : {s t : Tested} {r : Refusal} (bytes : List ℕ) {out : List ℕ} → s ≡ t → s ≡ Refused r → outcome (Unprinted r) out ≡ printing t bytes out
+pub refused_tests : {s t : Tested} {r : Refusal} (bytes : List ℕ) {out : List ℕ} → s ≡ t → s ≡ Err r → outcome (Err r) out ≡ printing t bytes out
 unfolding printing unless lowest ◌else◌
 refused_tests bytes q e = rw (← q, e)
 
 -- or, with the bytes counted, by 14,
-module _ {s t u : Tested} {bytes none : List ℕ} {many : ℕ} (out : List ℕ) (q : s ≡ t) (good : s ≡ Good) (counted : Wrote bytes 0 [] many none) (asked : u ≡ refuse (ltb (length (none ++ out)) many) Room) where
+module _ {s t u : Tested} {bytes none : List ℕ} {many : ℕ} (out : List ℕ) (q : s ≡ t) (good : s ≡ Ok tt) (counted : Wrote bytes 0 [] many none) (asked : u ≡ refuse (ltb (length (none ++ out)) many) Room) where
   room_is : u ≡ refuse (ltb (length out) (length bytes)) Room
   room_is =
       let n : many ≡ length bytes = omega (arith, counted.next) in
       asked ∙ (λ i. refuse (ltb (length (nowhere counted i ++ out)) (n i)) Room)
 
-  pub refused_room : {r : Refusal} → u ≡ Refused r → outcome (Unprinted r) (none ++ out) ≡ printing t bytes out
+  pub refused_room : {r : Refusal} → u ≡ Err r → outcome (Err r) (none ++ out) ≡ printing t bytes out
   unfolding printing unless lowest ◌else◌
   refused_room {r} e = rw (nowhere counted, ← q, good, ← room_is, e)
 
   -- or they are written
-  pub printed : {next : ℕ} {left : List ℕ} → u ≡ Good → Wrote bytes 0 (none ++ out) next left → outcome (Bytes many) left ≡ printing t bytes out
+  pub printed : {next : ℕ} {left : List ℕ} → u ≡ Ok tt → Wrote bytes 0 (none ++ out) next left → outcome (Ok many) left ≡ printing t bytes out
   unfolding printing unless lowest ◌else◌
   printed e w =
       let n : many ≡ length bytes = omega (arith, counted.next) in
       let fits : length bytes ≤ length out = ltb-false (length out) (length bytes) (refuse_good _ _ (sym room_is ∙ e)) in
-      rw (← q, good, ← room_is, e) (λ i. outcome (Bytes (n i)) (wrote_onto (rw (nowhere counted) at w) fits i))
+      rw (← q, good, ← room_is, e) (λ i. outcome (Ok (n i)) (wrote_onto (rw (nowhere counted) at w) fits i))

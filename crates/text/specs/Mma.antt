@@ -1,18 +1,20 @@
 -- `fmt_mma`: {{{row,column}->value,…},{rows,columns}}, counting from 1.
-use Rattle.std.specs.Prelude.{ℕ, ◌+◌, ltb, length}
+use Rattle.std.specs.Prelude.{ℕ, ◌+◌, ltb, length, Err, Ok, Result}
 use mathlib.Core.List.{List, [], ◌∷◌, ◌++◌, map, flatten}
 use Rattle.lists.specs.Onto.{◌onto◌}
 use Rattle.lists.specs.Table.{table}
 use Rattle.sparse.specs.Lent.{Outcome, outcome, unless}
 use Rattle.sparse.specs.Matrix.{Matrix}
-use Rattle.sparse.specs.Refusals.{refuse, lowest}
+use Rattle.sparse.specs.Refusals.{refuse, lowest, Tested}
 use Rattle.sparse.specs.Rows.{entries, row_at}
 use Rattle.sparse.specs.Tests.{well_formed, well_formed_vector}
 use Rattle.sparse.specs.declared.Refusal.TheVariants.{Room}
-use Rattle.sparse.specs.declared.Tested.{Tested}
 use Rattle.text.specs.Decimals.{decimal}
-use Rattle.text.specs.declared.Printed.{Printed}
-use Rattle.text.specs.declared.Printed.TheVariants.{Bytes, Refused as Unprinted}
+use Rattle.sparse.specs.declared.Refusal.{Refusal}
+
+-- how many bytes a text has, or why there is none
+abbrev pub Printed : Type 0
+Printed = Result ℕ Refusal
 
 -- {i+1,j+1}->v
 unfoldable pub piece : ℕ → ℕ → ℕ → List ℕ
@@ -38,7 +40,7 @@ vector_text len idcs vals = mma len 1 (map (λ e. piece e.col 0 e.value) (entrie
 
 -- a call that writes bytes: refused by its tests, or by 14 where they don't fit, else written
 unfoldable pub printing : Tested → List ℕ → List ℕ → Outcome Printed (List ℕ)
-printing t bytes out = unless Unprinted (lowest (t ∷ refuse (ltb (length out) (length bytes)) Room ∷ [])) out (outcome (Bytes (length bytes)) (bytes onto out))
+printing t bytes out = unless Err (lowest (t ∷ refuse (ltb (length out) (length bytes)) Room ∷ [])) out (outcome (Ok (length bytes)) (bytes onto out))
 
 unfoldable pub fmt_mma : ℕ → Matrix → List ℕ → Outcome Printed (List ℕ)
 fmt_mma p m = printing (well_formed 65536 p m) (matrix_text m)

@@ -10,7 +10,7 @@ ghost use Rattle.text.specs.Decimals.{decimal};
 ghost use Rattle.text.specs.Mma.{piece, matrix_text, vector_text};
 ghost use Rattle.text.specs.Writers.{Wrote, placed, pieces, row_pieces, link, links, ending};
 
-use sparse::{Refusal, Tested};
+use sparse::Refusal;
 
 // Entries that have the row in common, or the column.
 #[derive(Clone, Copy)]
@@ -37,10 +37,8 @@ pub fn put_bytes(bytes: &[u8], at: usize, text: &mut [u8]) -> usize
     ensures { Wrote bytes.now at text.old result text.new }
 {
     let mut next = at;
-    let mut i = 0;
-    while i < bytes.len() {
-        next = put_byte(bytes[i], next, text);
-        i += 1;
+    for &byte in bytes {
+        next = put_byte(byte, next, text);
     }
     next
 }
@@ -114,10 +112,8 @@ pub fn put_line(
     ensures { Wrote (links start (pieces line (part start stop (entries idcs.now values.now)))) at text.old result text.new }
 {
     let mut next = at;
-    let mut k = start;
-    while k < stop {
+    for k in start..stop {
         next = put_entry(line, k, idcs[k], values[k], next, text);
-        k += 1;
     }
     next
 }
@@ -135,8 +131,7 @@ pub fn put_rows(
     ensures { Wrote (links 0 (flatten (row_pieces nrows row_ptrs.now (entries col_idcs.now values.now)))) at text.old result text.new }
 {
     let mut next = at;
-    let mut i = 0;
-    while i < nrows {
+    for i in 0..nrows {
         let k = i as usize;
         next = put_line(
             Line::Row(i),
@@ -147,7 +142,6 @@ pub fn put_rows(
             next,
             text,
         );
-        i += 1;
     }
     next
 }
@@ -191,11 +185,11 @@ pub fn put_vector(len: u32, idcs: &[u32], values: &[u32], text: &mut [u8]) -> us
 }
 
 // 14: room for the bytes.
-pub fn room_test(bytes: usize, places: usize) -> Tested
+pub fn room_test(bytes: usize, places: usize) -> Result<(), Refusal>
     ensures { result ≡ refuse (ltb places bytes) Refusal.Room }
 {
     if places < bytes {
-        return Tested::Refused(Refusal::Room);
+        return Err(Refusal::Room);
     }
-    Tested::Good
+    Ok(())
 }

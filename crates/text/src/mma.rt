@@ -5,9 +5,8 @@ ghost use Rattle.sparse.specs.Lent.{outcome};
 ghost use Rattle.sparse.specs.Matrix.{matrix};
 ghost use Rattle.text.specs.Mma.{fmt_mma, fmt_mma_vector};
 
-use crate::Printed;
 use crate::inside::{put_matrix, put_vector, room_test};
-use sparse::{Tested, try_from_csr, try_from_csr_vector};
+use sparse::{Refusal, try_from_csr, try_from_csr_vector};
 
 // {{{row,column}->value,..},{rows,columns}}, counting from 1.
 pub fn fmt_mma(
@@ -18,35 +17,29 @@ pub fn fmt_mma(
     col_idcs: &[u32],
     values: &[u32],
     text: &mut [u8],
-) -> Printed
+) -> Result<usize, Refusal>
     ensures { outcome result text.new ≡ fmt_mma p (matrix nrows ncols row_ptrs.now col_idcs.now values.now) text.old }
 {
-    let formed = try_from_csr(p, nrows, ncols, row_ptrs, col_idcs, values);
-    if let Tested::Refused(why) = formed {
-        return Printed::Refused(why);
-    }
+    try_from_csr(p, nrows, ncols, row_ptrs, col_idcs, values)?;
     let bytes = put_matrix(nrows, ncols, row_ptrs, col_idcs, values, &mut text[..0]);
-    let room = room_test(bytes, text.len());
-    if let Tested::Refused(why) = room {
-        return Printed::Refused(why);
-    }
+    room_test(bytes, text.len())?;
     put_matrix(nrows, ncols, row_ptrs, col_idcs, values, text);
-    Printed::Bytes(bytes)
+    Ok(bytes)
 }
 
 // The same of a vector, as one column.
-pub fn fmt_mma_vector(p: u32, len: u32, idcs: &[u32], values: &[u32], text: &mut [u8]) -> Printed
+pub fn fmt_mma_vector(
+    p: u32,
+    len: u32,
+    idcs: &[u32],
+    values: &[u32],
+    text: &mut [u8],
+) -> Result<usize, Refusal>
     ensures { outcome result text.new ≡ fmt_mma_vector p len idcs.now values.now text.old }
 {
-    let formed = try_from_csr_vector(p, len, idcs, values);
-    if let Tested::Refused(why) = formed {
-        return Printed::Refused(why);
-    }
+    try_from_csr_vector(p, len, idcs, values)?;
     let bytes = put_vector(len, idcs, values, &mut text[..0]);
-    let room = room_test(bytes, text.len());
-    if let Tested::Refused(why) = room {
-        return Printed::Refused(why);
-    }
+    room_test(bytes, text.len())?;
     put_vector(len, idcs, values, text);
-    Printed::Bytes(bytes)
+    Ok(bytes)
 }

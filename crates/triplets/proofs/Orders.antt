@@ -1,5 +1,6 @@
 -- The order of triplets: the test of one step by their parts, and that ordered triplets' rows don't fall.
 -- Assumes nothing.
+use Rattle.std.specs.Prelude.{Ok}
 use mathlib.Core.Path.{◌≡◌, refl, sym, ◌∙◌}
 use mathlib.Core.Bool.{Bool, true, false, not, ◌&&◌, ◌||◌}
 use mathlib.Core.List.{List}
@@ -15,7 +16,6 @@ use Rattle.triplets.specs.Asks.{Parts, Rising}
 use Rattle.sparse.specs.Refusals.{refuse}
 use Rattle.triplets.specs.Triplets.{triplets, before, step_test, order_test}
 use Rattle.sparse.specs.declared.Refusal.TheVariants.{Order}
-use Rattle.sparse.specs.declared.Tested.TheVariants.{Good}
 use Rattle.sparse.proofs.Firsts.{refuse_good, each_good}
 use Rattle.triplets.proofs.TripletLists.{length-triplets, at_triplets}
 
@@ -38,12 +38,12 @@ module _ (rows cols vals : List ℕ) where
   unfolding step_test before
   step_parts k h = let h' : k - 1 < length vals = omega arith in rw (at_triplets rows cols vals (k - 1) h', at_triplets rows cols vals k h)
 
-  module _ (good : order_test (triplets rows cols vals) ≡ Good) where
+  module _ (good : order_test (triplets rows cols vals) ≡ Ok tt) where
     -- each triplet stands before the next
     pub ordered : (k : ℕ) → k + 1 < length vals → Before (get_or rows k 0) (get_or cols k 0) (get_or rows (k + 1) 0) (get_or cols (k + 1) 0)
     unfolding order_test
     ordered k h =
-        let one : step_test (triplets rows cols vals) (k + 1) ≡ Good = each_good (length (triplets rows cols vals)) (step_test (triplets rows cols vals)) good (k + 1) (rw length-triplets h) in
+        let one : step_test (triplets rows cols vals) (k + 1) ≡ Ok tt = each_good (length (triplets rows cols vals)) (step_test (triplets rows cols vals)) good (k + 1) (rw length-triplets h) in
         let back : k + 1 - 1 ≡ k = omega arith in
         let off = refuse_good _ Order (sym (step_parts (k + 1) h) ∙ one) in
         before_of (get_or rows k 0) (get_or cols k 0) (get_or rows (k + 1) 0) (get_or cols (k + 1) 0) _ refl

@@ -1,5 +1,6 @@
 -- What tests that are passed have shown of triplets and of lent memory, and what the writer leaves, by the parts.
 -- Assumes nothing.
+use Rattle.std.specs.Prelude.{Ok}
 use mathlib.Core.Path.{◌≡◌}
 use mathlib.Core.Bool.{not}
 use mathlib.Core.List.{List}
@@ -14,13 +15,12 @@ use Rattle.sparse.specs.Lent.{Lent, lent, room_test}
 use Rattle.sparse.specs.Tests.{values_test}
 use Rattle.triplets.specs.Triplets.{triplets, parts_test, places_test, order_test, start_of, written, triplets_test}
 use Rattle.sparse.specs.declared.Refusal.TheVariants.{Shape, Room}
-use Rattle.sparse.specs.declared.Tested.TheVariants.{Good}
 use Rattle.sparse.specs.declared.inside.Clause.TheVariants.{Residue}
 use Rattle.sparse.proofs.Firsts.{refuse_good, neither, lowest_good}
 use Rattle.triplets.proofs.Orders.{rising}
 use Rattle.triplets.proofs.TripletLists.{rows_back, cols_back, vals_back}
 
-pub parts_of : (rows cols vals : List ℕ) → parts_test rows cols vals ≡ Good → Parts rows cols vals
+pub parts_of : (rows cols vals : List ℕ) → parts_test rows cols vals ≡ Ok tt → Parts rows cols vals
 unfolding parts_test
 parts_of rows cols vals good =
     let none = neither (not (eqb (length rows) (length vals))) _ (refuse_good _ Shape good) in
@@ -28,12 +28,12 @@ parts_of rows cols vals good =
 
 -- what the tests of triplets leave: 3, 6, 8 and 9 don't apply
 pub record Accepted (p nrows ncols : ℕ) (rows cols vals : List ℕ) : Type 0 where
-  pub parts : parts_test rows cols vals ≡ Good
-  pub residues : values_test Residue p vals ≡ Good
-  pub places : places_test nrows ncols (triplets rows cols vals) ≡ Good
-  pub order : order_test (triplets rows cols vals) ≡ Good
+  pub parts : parts_test rows cols vals ≡ Ok tt
+  pub residues : values_test Residue p vals ≡ Ok tt
+  pub places : places_test nrows ncols (triplets rows cols vals) ≡ Ok tt
+  pub order : order_test (triplets rows cols vals) ≡ Ok tt
 
-pub accepted : (p nrows ncols : ℕ) (rows cols vals : List ℕ) → triplets_test p nrows ncols rows cols vals ≡ Good → Accepted p nrows ncols rows cols vals
+pub accepted : (p nrows ncols : ℕ) (rows cols vals : List ℕ) → triplets_test p nrows ncols rows cols vals ≡ Ok tt → Accepted p nrows ncols rows cols vals
 unfolding triplets_test
 accepted p nrows ncols rows cols vals good =
     let from_parts = lowest_good _ _ (lowest_good _ _ (lowest_good _ _ good).1).1 in
@@ -42,7 +42,7 @@ accepted p nrows ncols rows cols vals good =
     record { parts = from_parts.0; residues = from_values.0; places = from_Places.0; order = (lowest_good _ _ from_Places.1).0 }
 
 -- tested triplets and tested room are what the writer asks
-pub writable : (p nrows ncols : ℕ) (rows cols vals : List ℕ) (l : Lent) → triplets_test p nrows ncols rows cols vals ≡ Good → room_test nrows (length vals) l ≡ Good → Writable nrows rows cols vals l
+pub writable : (p nrows ncols : ℕ) (rows cols vals : List ℕ) (l : Lent) → triplets_test p nrows ncols rows cols vals ≡ Ok tt → room_test nrows (length vals) l ≡ Ok tt → Writable nrows rows cols vals l
 unfolding room_test
 writable p nrows ncols rows cols vals l good room =
     let ok = accepted p nrows ncols rows cols vals good in

@@ -1,15 +1,13 @@
 -- Building from triplets: the table's clauses 1, 2, 3, 6, 8, 9 and 14, and the matrix that is built.
-use Rattle.std.specs.Prelude.{ℕ, ◌+◌, ◌-◌, Bool, not, ◌&&◌, ◌||◌, List, [], ◌∷◌, map, leb, ltb, eqb, length, get_or}
+use Rattle.sparse.specs.Put.{Built}
+use Rattle.std.specs.Prelude.{ℕ, ◌+◌, ◌-◌, Bool, not, ◌&&◌, ◌||◌, List, [], ◌∷◌, map, leb, ltb, eqb, length, get_or, Err, Ok}
 use Rattle.lists.specs.Find.{count}
 use Rattle.lists.specs.Onto.{◌onto◌}
 use Rattle.lists.specs.Table.{table}
 use Rattle.sparse.specs.Lent.{Lent, lent, room_test, Outcome, outcome, unless}
-use Rattle.sparse.specs.Refusals.{refuse, lowest, first_of}
+use Rattle.sparse.specs.Refusals.{refuse, lowest, first_of, Tested}
 use Rattle.sparse.specs.Tests.{modulus_test, size_test, values_test}
-use Rattle.sparse.specs.declared.Built.{Built}
-use Rattle.sparse.specs.declared.Built.TheVariants.{Made, Refused as Unmade}
 use Rattle.sparse.specs.declared.Refusal.TheVariants.{Shape, Outside, Order}
-use Rattle.sparse.specs.declared.Tested.{Tested}
 use Rattle.sparse.specs.declared.inside.Clause.TheVariants.{Residue}
 
 pub record Triplet : Type 0 where
@@ -77,5 +75,5 @@ triplets_test p nrows ncols rows cols vals =
 -- the call: refused by one of those or by 14, else built
 unfoldable pub from_triplets : ℕ → ℕ → ℕ → List ℕ → List ℕ → List ℕ → Lent → Outcome Built Lent
 from_triplets p nrows ncols rows cols vals l =
-    unless Unmade (lowest (triplets_test p nrows ncols rows cols vals ∷ room_test nrows (length vals) l ∷ [])) l
-    (outcome (Made (length vals)) (written nrows (triplets rows cols vals) l))
+    unless Err (lowest (triplets_test p nrows ncols rows cols vals ∷ room_test nrows (length vals) l ∷ [])) l
+    (outcome (Ok (length vals)) (written nrows (triplets rows cols vals) l))

@@ -7,7 +7,7 @@ ghost use Rattle.sparse.specs.Lent.{lent};
 ghost use Rattle.triplets.specs.Triplets.{triplet, triplets, parts_test, place_test, places_test, step_test, order_test, start_of, written, triplets_test};
 
 use sparse::inside::{Clause, copy, modulus_test, size_test, values_test};
-use sparse::{MAX_ENTRIES, Refusal, Tested};
+use sparse::{MAX_ENTRIES, Refusal};
 
 // 1, 2, 3, 6, 8 and 9 of triplets.
 pub fn triplets_test(
@@ -17,109 +17,90 @@ pub fn triplets_test(
     rows: &[u32],
     cols: &[u32],
     vals: &[u32],
-) -> Tested
+) -> Result<(), Refusal>
     ensures { result ≡ triplets_test p nrows ncols rows.now cols.now vals.now }
 {
-    let modulus = modulus_test(p);
-    if let Tested::Refused(why) = modulus {
-        return Tested::Refused(why);
-    }
-    let size = size_test(MAX_ENTRIES, nrows, ncols, vals.len());
-    if let Tested::Refused(why) = size {
-        return Tested::Refused(why);
-    }
-    let parts = parts_test(rows, cols, vals);
-    if let Tested::Refused(why) = parts {
-        return Tested::Refused(why);
-    }
-    let residues = values_test(Clause::Residue, p, vals);
-    if let Tested::Refused(why) = residues {
-        return Tested::Refused(why);
-    }
-    let places = places_test(nrows, ncols, rows, cols, vals);
-    if let Tested::Refused(why) = places {
-        return Tested::Refused(why);
-    }
+    modulus_test(p)?;
+    size_test(MAX_ENTRIES, nrows, ncols, vals.len())?;
+    parts_test(rows, cols, vals)?;
+    values_test(Clause::Residue, p, vals)?;
+    places_test(nrows, ncols, rows, cols, vals)?;
     order_test(rows, cols, vals)
 }
 
 // 3: as many rows and columns as values.
-fn parts_test(rows: &[u32], cols: &[u32], vals: &[u32]) -> Tested
+fn parts_test(rows: &[u32], cols: &[u32], vals: &[u32]) -> Result<(), Refusal>
     ensures { result ≡ parts_test rows.now cols.now vals.now }
 {
     if rows.len() != vals.len() {
-        return Tested::Refused(Refusal::Shape);
+        return Err(Refusal::Shape);
     }
     if cols.len() != vals.len() {
-        return Tested::Refused(Refusal::Shape);
+        return Err(Refusal::Shape);
     }
-    Tested::Good
+    Ok(())
 }
 
 // 8 of one triplet.
-fn place_test(nrows: u32, ncols: u32, row: u32, col: u32, val: u32) -> Tested
+fn place_test(nrows: u32, ncols: u32, row: u32, col: u32, val: u32) -> Result<(), Refusal>
     ensures { result ≡ place_test nrows ncols (triplet row col val) }
 {
     if row >= nrows {
-        return Tested::Refused(Refusal::Outside);
+        return Err(Refusal::Outside);
     }
     if col >= ncols {
-        return Tested::Refused(Refusal::Outside);
+        return Err(Refusal::Outside);
     }
-    Tested::Good
+    Ok(())
 }
 
 // 8 of all.
-fn places_test(nrows: u32, ncols: u32, rows: &[u32], cols: &[u32], vals: &[u32]) -> Tested
+fn places_test(
+    nrows: u32,
+    ncols: u32,
+    rows: &[u32],
+    cols: &[u32],
+    vals: &[u32],
+) -> Result<(), Refusal>
     requires { Parts rows.now cols.now vals.now }
     ensures { result ≡ places_test nrows ncols (triplets rows.now cols.now vals.now) }
 {
-    let mut k = 0;
-    while k < vals.len() {
-        let found = place_test(nrows, ncols, rows[k], cols[k], vals[k]);
-        if let Tested::Refused(why) = found {
-            return Tested::Refused(why);
-        }
-        k += 1;
+    for k in 0..vals.len() {
+        place_test(nrows, ncols, rows[k], cols[k], vals[k])?;
     }
-    Tested::Good
+    Ok(())
 }
 
 // 9 at triplet k: it stands after the one before it by (row, column).
-fn step_test(rows: &[u32], cols: &[u32], vals: &[u32], k: usize) -> Tested
+fn step_test(rows: &[u32], cols: &[u32], vals: &[u32], k: usize) -> Result<(), Refusal>
     requires { PartsAt rows.now cols.now vals.now k }
     ensures { result ≡ step_test (triplets rows.now cols.now vals.now) k }
 {
     if k == 0 {
-        return Tested::Good;
+        return Ok(());
     }
     let last = k - 1;
     if rows[last] < rows[k] {
-        return Tested::Good;
+        return Ok(());
     }
     if rows[last] > rows[k] {
-        return Tested::Refused(Refusal::Order);
+        return Err(Refusal::Order);
     }
     if cols[last] < cols[k] {
-        return Tested::Good;
+        return Ok(());
     }
-    Tested::Refused(Refusal::Order)
+    Err(Refusal::Order)
 }
 
 // 9 of all.
-fn order_test(rows: &[u32], cols: &[u32], vals: &[u32]) -> Tested
+fn order_test(rows: &[u32], cols: &[u32], vals: &[u32]) -> Result<(), Refusal>
     requires { Parts rows.now cols.now vals.now }
     ensures { result ≡ order_test (triplets rows.now cols.now vals.now) }
 {
-    let mut k = 0;
-    while k < vals.len() {
-        let found = step_test(rows, cols, vals, k);
-        if let Tested::Refused(why) = found {
-            return Tested::Refused(why);
-        }
-        k += 1;
+    for k in 0..vals.len() {
+        step_test(rows, cols, vals, k)?;
     }
-    Tested::Good
+    Ok(())
 }
 
 // Writes ordered triplets to the front of the lent memory.
@@ -147,11 +128,9 @@ fn write_pointers(nrows: u32, rows: &[u32], row_ptrs: &mut [usize])
 {
     row_ptrs[0] = 0;
     let mut start = 0;
-    let mut row = 0;
-    while row < nrows {
+    for row in 0..nrows {
         start = row_end(rows, start, row);
-        row += 1;
-        row_ptrs[row as usize] = start;
+        row_ptrs[row as usize + 1] = start;
     }
 }
 
@@ -160,12 +139,10 @@ fn row_end(rows: &[u32], start: usize, row: u32) -> usize
     requires { RowStart rows.now row start }
     ensures { result ≡ start_of rows.now (row + 1) }
 {
-    let mut stop = start;
-    while stop < rows.len() {
+    for stop in start..rows.len() {
         if rows[stop] > row {
             return stop;
         }
-        stop += 1;
     }
-    stop
+    rows.len()
 }

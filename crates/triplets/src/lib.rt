@@ -8,8 +8,8 @@ ghost use Rattle.triplets.specs.Triplets.{from_triplets};
 pub mod inside;
 
 use inside::{triplets_test, write_triplets};
+use sparse::Refusal;
 use sparse::inside::room_test;
-use sparse::{Built, Tested};
 
 // The matrix whose entries are the triplets, stored zeros kept, at the front of the lent memory; or
 // the lowest of 1, 2, 3, 6, 8, 9 and 14 that applies, and the memory as it came.
@@ -23,17 +23,11 @@ pub fn from_triplets(
     row_ptrs: &mut [usize],
     col_idcs: &mut [u32],
     values: &mut [u32],
-) -> Built
+) -> Result<usize, Refusal>
     ensures { outcome result (lent row_ptrs.new col_idcs.new values.new) ≡ from_triplets p nrows ncols rows.now cols.now vals.now (lent row_ptrs.old col_idcs.old values.old) }
 {
-    let found = triplets_test(p, nrows, ncols, rows, cols, vals);
-    if let Tested::Refused(why) = found {
-        return Built::Refused(why);
-    }
-    let room = room_test(nrows, vals.len(), row_ptrs, col_idcs, values);
-    if let Tested::Refused(why) = room {
-        return Built::Refused(why);
-    }
+    triplets_test(p, nrows, ncols, rows, cols, vals)?;
+    room_test(nrows, vals.len(), row_ptrs, col_idcs, values)?;
     write_triplets(nrows, rows, cols, vals, row_ptrs, col_idcs, values);
-    Built::Made(vals.len())
+    Ok(vals.len())
 }

@@ -1,5 +1,6 @@
 -- A walk as code goes: over columns that hold nothing, to its stop, to its end.
 -- Assumes nothing.
+use Rattle.std.specs.Prelude.{None}
 use mathlib.Core.Path.{◌≡◌, refl, sym, ap, subst, ◌∙◌}
 use mathlib.Core.Bool.{Bool, true, false, not, ◌&&◌}
 use mathlib.Core.List.{List, []}
@@ -11,7 +12,6 @@ use lib.ListN.{length, get_or}
 use Rattle.lists.specs.Gather.{gather}
 use Rattle.walk.specs.Left.{multiples, answer_of, Left}
 use Rattle.walk.specs.Step.{Upper, is_none, Way, way, stopped, at, climb}
-use Rattle.walk.specs.declared.Answer.TheVariants.{None}
 use Rattle.walk.proofs.Ways.{at_stopped, left_zero, rest_above}
 
 module _ (on : Bool) (p n : ℕ) (u : Upper) (w : Way) where

@@ -2,15 +2,17 @@
 -- Assumes nothing.
 use mathlib.Core.Path.{◌≡◌, refl, sym, ap, ◌∙◌}
 use mathlib.Core.Bool.{true, false, not, cond}
-use mathlib.Core.List.{List}
-use Prim.Native.Nat.{ℕ, ◌+◌, ◌-◌, ◌*◌, ◌%◌, ◌^◌, ◌≤◌, ◌<◌}
+use mathlib.Core.List.{List, ◌++◌}
+use Prim.Native.Nat.{ℕ, ◌+◌, ◌-◌, ◌*◌, ◌%◌, ◌^◌, ◌≤◌, ◌<◌, min}
 use native.Mathlib.Nat.{mod-eq_of_lt, mod-add-mod, add-zero, mul-zero, zero-add, mul-le-mul_left}
 use native.Mathlib.Decide.{dec_lt}
 use native.Mathlib.Numerals.{add-one}
 use native.Mathlib.Omega.{arith}
 use borrow.Author.Tests.{eq-eqb, ne_eqb, lt-ltb, le-ltb}
 use lib.Dec.{eqb, ltb}
-use lib.ListN.{length, get_or, set}
+use lib.ListN.{length, get_or, set, take, replicate, length-append, get_or-append}
+use lib.Seq.{length-take-le, get_or-append_right}
+use Rattle.std.proofs.lemmas.List.{length-replicate, get_or-replicate, get_or-take}
 use Rattle.lists.specs.Sum.{Σ}
 use Rattle.lists.specs.Table.{table}
 use Rattle.lists.proofs.Find.{least_first, least_none}
@@ -29,19 +31,18 @@ product_room {a} {f} {b} ha hf hb =
 -- `next`: nothing but zeros from c up to `at`
 pub record Searched (dense : List ℕ) (c at : ℕ) : Type 0 where
   pub from : c ≤ at
-  pub within : at ≤ length dense
   pub zeros : (j : ℕ) → c ≤ j → j < at → get_or dense j 0 ≡ 0
 
-pub searched_none : (dense : List ℕ) (c : ℕ) → c ≤ length dense → Searched dense c c
-searched_none dense c h = record { from = omega arith; within = h; zeros = λ j a b. absurd (omega arith) }
+pub searched_none : (dense : List ℕ) (c : ℕ) → Searched dense c c
+searched_none dense c = record { from = omega arith; zeros = λ j a b. absurd (omega arith) }
 
 module _ {dense : List ℕ} {c at : ℕ} (s : Searched dense c at) where
   -- the test of `next_from` fails up to `at`
   passed : (i : ℕ) → i < at - c → not (eqb (get_or dense (c + i) 0) 0) ≡ false
   passed i h = rw (eq-eqb (get_or dense (c + i) 0) 0 (s.zeros (c + i) (omega arith) (omega arith)))
 
-  pub searched_more : at < length dense → get_or dense at 0 ≡ 0 → Searched dense c (at + 1)
-  searched_more h e = record { from = omega (arith, s.from); within = omega arith; zeros = λ j a b. go j a (dec_lt j at) b }
+  pub searched_more : get_or dense at 0 ≡ 0 → Searched dense c (at + 1)
+  searched_more e = record { from = omega (arith, s.from); zeros = λ j a b. go j a (dec_lt j at) b }
     where
       go : (j : ℕ) → c ≤ j → Dec (j < at) → j < at + 1 → get_or dense j 0 ≡ 0
       go j a (yes l) b = s.zeros j a l
@@ -55,11 +56,10 @@ module _ {dense : List ℕ} {c at : ℕ} (s : Searched dense c at) where
       let low : at - c < length dense - c = omega (arith, s.from) in
       sym (ap (λ (k : ℕ). c + k) (least_first (length dense - c) (λ i. not (eqb (get_or dense (c + i) 0) 0)) (at - c) low here passed) ∙ back)
 
-  pub searched_all : length dense ≤ at → at ≡ next_from dense c
+  pub searched_all : c ≤ length dense → length dense ≤ at → length dense ≡ next_from dense c
   unfolding next_from
-  searched_all h =
-      let e : at ≡ length dense = omega (arith, s.within) in
-      let back : c + (length dense - c) ≡ at = omega (arith, s.from) in
+  searched_all within h =
+      let back : c + (length dense - c) ≡ length dense = omega arith in
       sym (ap (λ (k : ℕ). c + k) (least_none (length dense - c) (λ i. not (eqb (get_or dense (c + i) 0) 0)) (λ i l. passed i (omega arith))) ∙ back)
 
 -- the first k entries of a row
@@ -124,27 +124,20 @@ pub add_all : (p f : ℕ) (cols vals dense : List ℕ) (k : ℕ) → k ≡ lengt
 unfolding plus_multiple value_in partly
 add_all p f cols vals dense k e = rw e
 
--- `wipe`: cleared from `from` up to `at`
-pub cleared : ℕ → ℕ → List ℕ → ℕ → ℕ
-cleared from at dense j = cond (ltb j from) (get_or dense j 0) (cond (ltb j at) 0 (get_or dense j 0))
-
-pub wipe_none : (from : ℕ) (dense : List ℕ) → dense ≡ table (length dense) (cleared from from dense)
-unfolding cleared
-wipe_none from dense = sym (table_get_or dense 0) ∙ table_ext (length dense) (λ j. get_or dense j 0) (cleared from from dense) (λ j l. go j (dec_lt j from))
+-- `wipe`: the front as it came, then zeros
+pub wipe_all : (from m : ℕ) (dense : List ℕ) → m ≡ min from (length dense) → take m dense ++ replicate (length dense - m) 0 ≡ wiped from dense
+unfolding wiped
+wipe_all from m dense e =
+    sym (table_get_or front 0)
+    ∙ ap (λ (n : ℕ). table n (λ j. get_or front j 0)) (simp (length-append, length-replicate) (omega (arith, long)))
+    ∙ table_ext (length dense) (λ j. get_or front j 0) (λ j. cond (ltb j from) (get_or dense j 0) 0) (λ j l. go j l (dec_lt j from))
   where
-    go : (j : ℕ) → Dec (j < from) → get_or dense j 0 ≡ cond (ltb j from) (get_or dense j 0) (cond (ltb j from) 0 (get_or dense j 0))
-    go j (yes h) = rw (lt-ltb j from h)
-    go j (no h) = rw (le-ltb j from (omega arith))
+    front : List ℕ
+    front = take m dense ++ replicate (length dense - m) 0
 
-pub wipe_more : (from at : ℕ) (dense : List ℕ) → from ≤ at → at < length dense → set (table (length dense) (cleared from at dense)) at 0 ≡ table (length dense) (cleared from (at + 1) dense)
-unfolding cleared
-wipe_more from at dense h low =
-    set-table (length dense) (cleared from at dense) (cleared from (at + 1) dense) at 0 low (rw (le-ltb at from h, lt-ltb at (at + 1) (omega arith))) (λ j l ne. go j ne (dec_lt j at))
-  where
-    go : (j : ℕ) → (j ≡ at → ⊥) → Dec (j < at) → cleared from (at + 1) dense j ≡ cleared from at dense j
-    go j ne (yes b) = rw (lt-ltb j at b, lt-ltb j (at + 1) (omega arith))
-    go j ne (no b) = rw (le-ltb j at (omega arith), le-ltb j (at + 1) (omega arith))
+    long : length (take m dense) ≡ m
+    long = length-take-le m dense (omega arith)
 
-pub wipe_all : (from at : ℕ) (dense : List ℕ) → length dense ≤ at → table (length dense) (cleared from at dense) ≡ wiped from dense
-unfolding cleared wiped
-wipe_all from at dense h = table_ext (length dense) (cleared from at dense) (λ j. cond (ltb j from) (get_or dense j 0) 0) (λ j l. rw (lt-ltb j at (omega arith)))
+    go : (j : ℕ) → j < length dense → Dec (j < from) → get_or front j 0 ≡ cond (ltb j from) (get_or dense j 0) 0
+    go j l (yes h) = rw (lt-ltb j from h) (get_or-append (take m dense) _ 0 j (omega (arith, long)) ∙ get_or-take m dense j 0 (omega arith))
+    go j l (no h) = rw (le-ltb j from (omega arith)) (get_or-append_right (take m dense) _ j 0 (omega (arith, long)) ∙ get_or-replicate (length dense - m) (j - length (take m dense)) 0 0 (omega (arith, long)))

@@ -1,5 +1,6 @@
 -- Walks of rows that agree below n, over Us that agree there, agree.
 -- Assumes nothing.
+use Rattle.std.specs.Prelude.{Some}
 use mathlib.Core.Path.{◌≡◌, refl, sym, ap, ap₂, ◌∙◌}
 use mathlib.Core.Bool.{Bool, true, false, not, ◌&&◌, ◌||◌, cond}
 use mathlib.Core.List.{List, [], ◌∷◌, ◌++◌}
@@ -10,9 +11,7 @@ use borrow.Author.Tests.{eq-eqb, ne_eqb}
 use lib.Dec.{eqb}
 use Rattle.sparse.specs.Pivots.{mark}
 use Rattle.sparse.specs.Rows.{Entry, entry}
-use Rattle.walk.specs.Step.{Upper, pivot_at, is_none, Way, subtract, accept, stopped, at, climb}
-use Rattle.walk.specs.declared.Answer.{Answer}
-use Rattle.walk.specs.declared.Answer.TheVariants.{Accepted}
+use Rattle.walk.specs.Step.{Upper, pivot_at, is_none, Way, subtract, accept, stopped, at, climb, Answer}
 
 -- two ways with the same L row and answer, that leave the same below n
 pub record Same (n : ℕ) (w v : Way) : Type 0 where
@@ -28,7 +27,7 @@ pub record Alike (n : ℕ) (u v : Upper) : Type 0 where
 module _ (on : Bool) (p n : ℕ) (u v : Upper) (alike : Alike n u v) where
   accept_alike : (c : ℕ) (w x : Way) → Same n w x → Same n (accept c w) (accept c x)
   unfolding accept
-  accept_alike c w x s = record { rest = s.rest; l = s.l; answer = ap (λ (a : Answer). cond (is_none a) (Accepted c) a) s.answer }
+  accept_alike c w x s = record { rest = s.rest; l = s.l; answer = ap (λ (a : Answer). cond (is_none a) (Some c) a) s.answer }
 
   subtract_alike : (c : ℕ) (w x : Way) → c < n → (pivot_at u.pivots c ≡ mark → ⊥) → Same n w x → Same n (subtract p u c w) (subtract p v c x)
   unfolding subtract

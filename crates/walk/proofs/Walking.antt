@@ -1,28 +1,28 @@
 -- `walk`'s loop: what it has at each turn, and at its end.
 -- Assumes nothing.
+use Rattle.std.specs.Prelude.{None}
 use mathlib.Core.Path.{◌≡◌, refl, sym, ap, subst, ◌∙◌}
 use mathlib.Core.Logic.{◌⊎◌, inl, inr, ⊎_elim}
-use mathlib.Core.Bool.{Bool, true, false, not, cond, true≢false}
+use mathlib.Core.Bool.{Bool, true, false, not, true≢false}
 use mathlib.Core.List.{List, []}
-use Prim.Native.Nat.{ℕ, suc, ◌+◌, ◌-◌, ◌*◌, ◌%◌, ◌≤◌, ◌<◌}
+use Prim.Native.Nat.{ℕ, suc, ◌+◌, ◌-◌, ◌*◌, ◌%◌, ◌≤◌, ◌<◌, min}
 use native.Mathlib.Nat.{mul-zero, zero-mod}
 use native.Mathlib.Decide.{ℕ_discrete}
 use native.Mathlib.Numerals.{add-one}
 use native.Mathlib.Omega.{arith}
-use borrow.Author.Tests.{eqb-true, eqb-false, not-true, not-false, lt-ltb, le-ltb}
-use lib.Dec.{eqb, ltb}
+use borrow.Author.Tests.{eqb-true, eqb-false, not-true, not-false}
+use lib.Dec.{eqb}
 use lib.ListN.{length, get_or}
 use Rattle.lists.specs.Find.{least}
 use Rattle.lists.specs.Table.{table}
 use Rattle.lists.proofs.Find.{least_within, least_before, least_at}
 use Rattle.lists.proofs.Tables.{length-table, get_or-table}
-use Rattle.sparse.specs.Matrix.{row, value_in}
+use Rattle.sparse.specs.Matrix.{value_in}
 use Rattle.sparse.specs.Pivots.{mark}
 use Rattle.walk.specs.Asks.{PivotRow, Clears, Walks}
 use Rattle.walk.specs.Dense.{next_from, plus_multiple, beyond, minus_row}
 use Rattle.walk.specs.Left.{rest_of, limit_of, Left}
-use Rattle.walk.specs.Step.{Upper, upper, pivot_at, Way, way, stopped, at, climb}
-use Rattle.walk.specs.declared.Answer.TheVariants.{None}
+use Rattle.walk.specs.Step.{Upper, upper, pivot_at, Way, way, stopped, climb}
 use Rattle.walk.proofs.Climbing.{climb_stays, left_skip, left_start, still, goes_on, stops}
 use Rattle.walk.proofs.PivotRows.{pivot_beyond}
 use Rattle.walk.proofs.Ways.{rest_free, rest_other, multiples_free, left_pivot, left_head, left_later}
@@ -142,12 +142,12 @@ module _ (on : Bool) (p n : ℕ) (u : Upper) (w : Way) where
         back j (no ne) = rest_other u col dense j ne
 
     -- the second notes the first such column, and goes on
-    pub up_free : on ≡ true → pivot_at u.pivots col ≡ mark → {at h' : ℕ} → h' ≡ cond (ltb head col) head col → at ≡ next_from dense (col + 1) → Up dense h' at
+    pub up_free : on ≡ true → pivot_at u.pivots col ≡ mark → {at h' : ℕ} → h' ≡ min head col → at ≡ next_from dense (col + 1) → Up dense h' at
     unfolding climb
     up_free goes free {at} {h'} e q =
         ⊎_elim
-        (λ (none : head ≡ n). let f : h' ≡ col = e ∙ rw (le-ltb head col (omega arith)) in rw f (further {k = col} (left_head on p n u col (climb on p u col w) dense head h.left low still_going (h.stands low) free none) (omega arith)))
-        (λ (some : head < col). let f : h' ≡ head = e ∙ rw (lt-ltb head col some) in rw f (further {k = head} (left_later on p n u col (climb on p u col w) dense head h.left low still_going (h.stands low) free (omega arith)) (omega arith)))
+        (λ (none : head ≡ n). let f : h' ≡ col = omega arith in rw f (further {k = col} (left_head on p n u col (climb on p u col w) dense head h.left low still_going (h.stands low) free none) (omega arith)))
+        (λ (some : head < col). let f : h' ≡ head = omega arith in rw f (further {k = head} (left_later on p n u col (climb on p u col w) dense head h.left low still_going (h.stands low) free (omega arith)) (omega arith)))
         h.heads
       where
         still_going : stopped on (climb on p u col w) ≡ false

@@ -1,5 +1,6 @@
 -- One column of a walk, in document 01's words and in place: the two agree.
 -- Assumes nothing.
+use Rattle.std.specs.Prelude.{None, Some}
 use mathlib.Core.Path.{◌≡◌, refl, sym, ap, ◌∙◌}
 use mathlib.Core.Bool.{Bool, true, false, not, ◌&&◌, cond, or-true, and-false}
 use mathlib.Core.List.{List, [], ◌∷◌, ◌++◌, append-nil}
@@ -16,9 +17,7 @@ use Rattle.lists.proofs.Tables.{length-table, get_or-table}
 use Rattle.sparse.specs.Pivots.{mark}
 use Rattle.sparse.specs.Rows.{Entry, entry}
 use Rattle.walk.specs.Left.{over, rest_of, multiples, answer_of, Left}
-use Rattle.walk.specs.Step.{Upper, pivot_at, is_none, Way, subtract, accept, stopped, at}
-use Rattle.walk.specs.declared.Answer.{Answer}
-use Rattle.walk.specs.declared.Answer.TheVariants.{Accepted, None}
+use Rattle.walk.specs.Step.{Upper, pivot_at, is_none, Way, subtract, accept, stopped, at, Answer}
 
 -- 01's column c, case by case
 module _ (on : Bool) (p : ℕ) (u : Upper) (c : ℕ) (w : Way) where
@@ -196,7 +195,7 @@ module _ (on : Bool) (p n : ℕ) (u : Upper) (c : ℕ) (w : Way) (dense : List �
             ∙ ap (λ (z : List Entry). z ++ (entry (pivot_at u.pivots c) (get_or (table n new) c 0) ∷ [])) (left.l ∙ multiples_same u c dense (table n new) (λ j h. sym (kept j (omega arith))))
             ∙ sym (multiples_more u c (table n new) pivot (λ e. nonzero (sym (kept c (omega arith)) ∙ e)))
 
-    freed : pivot_at u.pivots c ≡ mark → (h : ℕ) → cond (is_none w.answer) (Accepted c) w.answer ≡ answer_of n h → Left p n (suc c) u (at on p u c w) dense h
+    freed : pivot_at u.pivots c ≡ mark → (h : ℕ) → cond (is_none w.answer) (Some c) w.answer ≡ answer_of n h → Left p n (suc c) u (at on p u c w) dense h
     unfolding accept
     freed free h e = record {
       long = left.long;
@@ -216,18 +215,18 @@ module _ (on : Bool) (p n : ℕ) (u : Upper) (c : ℕ) (w : Way) (dense : List �
     -- an entry with no pivot: the head, where there was none
     pub left_head : pivot_at u.pivots c ≡ mark → head ≡ n → Left p n (suc c) u (at on p u c w) dense c
     unfolding answer_of is_none
-    left_head free none = freed free c (ap (λ (a : Answer). cond (is_none a) (Accepted c) a) (left.answer ∙ none_yet) ∙ here)
+    left_head free none = freed free c (ap (λ (a : Answer). cond (is_none a) (Some c) a) (left.answer ∙ none_yet) ∙ here)
       where
         none_yet : answer_of n head ≡ None
         none_yet = rw (le-ltb head n (omega arith))
 
-        here : cond (is_none None) (Accepted c) None ≡ answer_of n c
+        here : cond (is_none None) (Some c) None ≡ answer_of n c
         here = rw (lt-ltb c n low)
 
     -- and where there was one
     pub left_later : pivot_at u.pivots c ≡ mark → head < n → Left p n (suc c) u (at on p u c w) dense head
     unfolding answer_of is_none
-    left_later free some = freed free head (ap (λ (a : Answer). cond (is_none a) (Accepted c) a) (left.answer ∙ found) ∙ sym found)
+    left_later free some = freed free head (ap (λ (a : Answer). cond (is_none a) (Some c) a) (left.answer ∙ found) ∙ sym found)
       where
-        found : answer_of n head ≡ Accepted head
+        found : answer_of n head ≡ Some head
         found = rw (lt-ltb head n some)

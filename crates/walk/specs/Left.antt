@@ -1,11 +1,9 @@
 -- What a walk leaves in dense memory: over pivots below a limit the multiples, elsewhere what is left of the row.
-use Rattle.std.specs.Prelude.{◌≡◌, ℕ, ◌≤◌, ◌<◌, Bool, true, false, not, ◌&&◌, cond, List, ltb, eqb, length, get_or}
+use Rattle.std.specs.Prelude.{◌≡◌, ℕ, ◌≤◌, ◌<◌, Bool, true, false, not, ◌&&◌, cond, List, ltb, eqb, length, get_or, None, Some}
 use Rattle.lists.specs.Gather.{gather}
 use Rattle.sparse.specs.Pivots.{mark}
 use Rattle.sparse.specs.Rows.{Entry, entry}
-use Rattle.walk.specs.Step.{Upper, pivot_at, Way}
-use Rattle.walk.specs.declared.Answer.{Answer}
-use Rattle.walk.specs.declared.Answer.TheVariants.{Accepted, None}
+use Rattle.walk.specs.Step.{Upper, pivot_at, Way, Answer}
 
 -- column j is below the limit, over a pivot
 unfoldable pub over : List ℕ → ℕ → ℕ → Bool
@@ -21,7 +19,7 @@ multiples pivots limit dense = gather (λ j. not (eqb (pivot_at pivots j) mark) 
 
 -- the answer, by the head's column; none where that is n
 unfoldable pub answer_of : ℕ → ℕ → Answer
-answer_of n head = cond (ltb head n) (Accepted head) None
+answer_of n head = cond (ltb head n) (Some head) None
 
 -- up to where pivots hold multiples: the head, where the first walk stops; all n columns in the second
 unfoldable pub limit_of : Bool → ℕ → ℕ → ℕ

@@ -1,5 +1,5 @@
 -- One row against U: document 01's steps 3 and 4.
-use Rattle.std.specs.Prelude.{ℕ, zero, suc, ◌+◌, ◌-◌, ◌*◌, ◌%◌, Bool, true, false, not, ◌&&◌, ◌||◌, cond, List, [], ◌∷◌, ◌++◌, map, eqb, get_or}
+use Rattle.std.specs.Prelude.{ℕ, zero, suc, ◌+◌, ◌-◌, ◌*◌, ◌%◌, Bool, true, false, not, ◌&&◌, ◌||◌, cond, List, [], ◌∷◌, ◌++◌, map, eqb, get_or, None, Some, Option}
 use Rattle.lists.specs.Find.{count, keep}
 use Rattle.lists.specs.Table.{table}
 use Rattle.field.specs.Inverse.{inverse}
@@ -7,8 +7,10 @@ use Rattle.sparse.specs.Matrix.{row, value_in}
 use Rattle.sparse.specs.Pivots.{mark}
 use Rattle.sparse.specs.Put.{cols_of, values_of}
 use Rattle.sparse.specs.Rows.{Entry, entry}
-use Rattle.walk.specs.declared.Answer.{Answer}
-use Rattle.walk.specs.declared.Answer.TheVariants.{Accepted, None}
+
+-- a row's answer: the column where it was accepted, or None
+abbrev pub Answer : Type 0
+Answer = Option ℕ
 
 -- U as a row meets it: the value of row r at column j, and the pivot table
 pub record Upper : Type 0 where
@@ -26,7 +28,7 @@ pivot_at pivots c = get_or pivots c 0
 -- the answer is None
 unfoldable pub is_none : Answer → Bool
 is_none None = true
-is_none (Accepted c) = false
+is_none (Some c) = false
 
 -- a row on its way up through the columns: what is left of it, its L row and its answer, so far
 pub record Way : Type 0 where
@@ -46,7 +48,7 @@ subtract p u c w =
 
 -- at the first nonzero entry with no pivot the row is accepted
 unfoldable pub accept : ℕ → Way → Way
-accept c w = way w.rest w.l (cond (is_none w.answer) (Accepted c) w.answer)
+accept c w = way w.rest w.l (cond (is_none w.answer) (Some c) w.answer)
 
 -- there the first walk stops; the second goes on
 unfoldable pub stopped : Bool → Way → Bool
@@ -76,7 +78,7 @@ divided p n x h = keep (λ e. not (eqb e.value 0)) (table n (λ j. entry j (x j 
 
 -- at the end: accepted, with (new row number, head) last in L; or None, and L's row has no diagonal
 unfoldable pub ended : ℕ → ℕ → ℕ → Answer → Way → Taken
-ended p n rank (Accepted h) w = taken (Accepted h) (divided p n w.rest h) (w.l ++ (entry rank (w.rest h) ∷ []))
+ended p n rank (Some h) w = taken (Some h) (divided p n w.rest h) (w.l ++ (entry rank (w.rest h) ∷ []))
 ended p n rank None w = taken None [] w.l
 
 -- the row itself, at its start
@@ -90,7 +92,7 @@ walked on p n rank u es = ended p n rank (climb on p u n (start es)).answer (cli
 -- the row goes to U divided by its head; L gets the head on the diagonal
 unfoldable pub copied : ℕ → ℕ → List Entry → Taken
 copied p rank [] = taken None [] []
-copied p rank (e ∷ es) = taken (Accepted e.col) (map (λ d. entry d.col (d.value * inverse p e.value % p)) (e ∷ es)) (entry rank e.value ∷ [])
+copied p rank (e ∷ es) = taken (Some e.col) (map (λ d. entry d.col (d.value * inverse p e.value % p)) (e ∷ es)) (entry rank e.value ∷ [])
 
 -- step 3 is for a head column with no pivot; in the second walk only if no entry at all stands over a pivot
 unfoldable pub direct : Bool → Upper → List Entry → Bool

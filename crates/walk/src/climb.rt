@@ -1,10 +1,9 @@
 // The walk up through the columns.
-ghost use Rattle.std.specs.Prelude.{◌≡◌, cond, [], ltb, length, get_or};
+ghost use Rattle.std.specs.Prelude.{◌≡◌, [], length, get_or, None};
 ghost use Rattle.walk.specs.Asks.{Clears, Walks};
 ghost use Rattle.walk.specs.Dense.{minus_row};
 ghost use Rattle.walk.specs.Left.{LeftFrom, limit_of};
 ghost use Rattle.walk.specs.Step.{upper, way, climb};
-ghost use Rattle.walk.specs.declared.Answer.TheVariants.{None};
 
 use crate::kernels::{add_multiple, next};
 use pivots::inside::MARK;
@@ -27,13 +26,14 @@ pub fn walk(
 {
     let mut head = dense.len();
     let mut col = next(dense, from);
+    // A while: the column jumps to the next nonzero entry.
     while col < dense.len() {
         let row = pivots[col];
         if row == MARK {
             if !on {
                 return col;
             }
-            head = lesser(head, col);
+            head = head.min(col);
             col = next(dense, col + 1);
             continue;
         }
@@ -41,15 +41,6 @@ pub fn walk(
         col = next(dense, col + 1);
     }
     head
-}
-
-fn lesser(a: usize, b: usize) -> usize
-    ensures { result ≡ cond (ltb a b) a b }
-{
-    if a < b {
-        return a;
-    }
-    b
 }
 
 // Subtracts the entry at `col` times a row of U, beyond the row's head.

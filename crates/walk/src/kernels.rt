@@ -8,14 +8,12 @@ pub fn next(dense: &[u32], col: usize) -> usize
     requires { col ≤ length dense.now }
     ensures { result ≡ next_from dense.now col }
 {
-    let mut at = col;
-    while at < dense.len() {
+    for at in col..dense.len() {
         if dense[at] != 0 {
             return at;
         }
-        at += 1;
     }
-    at
+    dense.len()
 }
 
 // Puts a row into dense memory that is zero.
@@ -23,10 +21,8 @@ pub fn load(cols: &[u32], vals: &[u32], dense: &mut [u32])
     requires { Loads (length dense.old) cols.now vals.now dense.old }
     ensures { dense.new ≡ spread (length dense.old) cols.now vals.now }
 {
-    let mut k = 0;
-    while k < cols.len() {
-        dense[cols[k] as usize] = vals[k];
-        k += 1;
+    for (col, val) in cols.iter().zip(vals) {
+        dense[*col as usize] = *val;
     }
 }
 
@@ -34,11 +30,8 @@ pub fn load(cols: &[u32], vals: &[u32], dense: &mut [u32])
 pub fn wipe(from: usize, dense: &mut [u32])
     ensures { dense.new ≡ wiped from dense.old }
 {
-    let mut at = from;
-    while at < dense.len() {
-        dense[at] = 0;
-        at += 1;
-    }
+    let from = from.min(dense.len());
+    dense[from..].fill(0);
 }
 
 // Adds f times a row, modulo p.
@@ -46,11 +39,9 @@ pub fn add_multiple(p: u32, f: u32, cols: &[u32], vals: &[u32], dense: &mut [u32
     requires { Adds p cols.now vals.now dense.old }
     ensures { dense.new ≡ plus_multiple p f cols.now vals.now dense.old }
 {
-    let mut k = 0;
-    while k < cols.len() {
-        let col = cols[k] as usize;
-        dense[col] = plus(p, dense[col], f, vals[k]);
-        k += 1;
+    for (col, val) in cols.iter().zip(vals) {
+        let col = *col as usize;
+        dense[col] = plus(p, dense[col], f, *val);
     }
 }
 

@@ -4,10 +4,3 @@
 
 pub mod climb;
 pub mod kernels;
-
-// What one row is answered.
-#[derive(Clone, Copy)]
-pub enum Answer {
-    Accepted(u32),
-    None,
-}

@@ -1,6 +1,7 @@
 -- What good tests leave for inserting columns in a reducer: a state, positions among its columns, and a place for each
 -- column.
 -- Assumes nothing.
+use Rattle.std.specs.Prelude.{Ok}
 use mathlib.Core.Path.{◌≡◌}
 use mathlib.Core.List.{List, []}
 use Prim.Native.Nat.{ℕ, ◌+◌, ◌≤◌, ◌<◌}
@@ -9,7 +10,6 @@ use borrow.Author.Tests.{ltb-false}
 use lib.ListN.{length, get_or, take}
 use Rattle.sparse.specs.Tests.{modulus_test, clean}
 use Rattle.sparse.specs.declared.Refusal.TheVariants.{Mismatch}
-use Rattle.sparse.specs.declared.Tested.TheVariants.{Good}
 use Rattle.sparse.proofs.Cuts.{formed_laid, formed_rows}
 use Rattle.sparse.proofs.Firsts.{refuse_good, lowest_good}
 use Rattle.meaning.proofs.RowColumns.{column_low}
@@ -31,14 +31,14 @@ record Roomy (n more places : ℕ) : Type 0 where
   pub wide : n + more ≤ 1024
   pub table : n + more ≤ places
 
-roomy : (n more places : ℕ) → width_test n more places ≡ Good → Roomy n more places
+roomy : (n more places : ℕ) → width_test n more places ≡ Ok tt → Roomy n more places
 unfolding width_test
 roomy n more places e =
     let wider = lowest_good _ _ (lowest_good _ _ e).1 in
     record { wide = few_cols 65536 0 (n + more) 0 wider.0; table = ltb-false places (n + more) (refuse_good _ Mismatch (lowest_good _ _ wider.1).0) }
 
 -- 1 neither: the record is that of an open reducer
-pub width_opened : (p n more : ℕ) (pivots : List ℕ) → modulus_test p ≡ Good → width_test n more (length pivots) ≡ Good → Opened p n pivots
+pub width_opened : (p n more : ℕ) (pivots : List ℕ) → modulus_test p ≡ Ok tt → width_test n more (length pivots) ≡ Ok tt → Opened p n pivots
 width_opened p n more pivots m e =
     let r = roomy n more (length pivots) e in
     record { modulus = m; wide = omega (arith, r.wide); table = omega (arith, r.table) }
@@ -48,7 +48,7 @@ pub record Widenable (c : Counts) (positions : List ℕ) (m : Memory) : Type 0 w
   pub stands : Stands c (lists m [])
   pub spreads : Spreads c.ncols positions m.pivots
 
-pub widenable : (c : Counts) (ps : List ℕ) (m : Memory) → add_cols_test c ps m ≡ Good → Widenable c ps m
+pub widenable : (c : Counts) (ps : List ℕ) (m : Memory) → add_cols_test c ps m ≡ Ok tt → Widenable c ps m
 unfolding add_cols_test
 widenable c ps m e =
     let width = lowest_good _ _ (lowest_good _ _ e).1 in

@@ -7,8 +7,7 @@ use Rattle.lists.proofs.Only.{only}
 use Rattle.sparse.specs.Lent.{Outcome}
 use Rattle.state.specs.Memory.{Memory}
 use Rattle.state.specs.declared.Counts.{Counts}
-use Rattle.widening.specs.AddCols.{add_cols}
-use Rattle.widening.specs.declared.Widened.{Widened}
+use Rattle.widening.specs.AddCols.{add_cols, Widened}
 
 pub add_cols_only : (c : Counts) (positions : List ℕ) (m : Memory) {s t : Outcome Widened Memory} → s ≡ add_cols c positions m → t ≡ add_cols c positions m → s ≡ t
 add_cols_only c positions m = only

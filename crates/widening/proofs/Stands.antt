@@ -1,13 +1,13 @@
 -- Inserting columns in a reducer leaves a state, whose rows of U are the old ones with inserted columns as zeros: what was a
 -- combination of them is one, and nothing else.
 -- Assumes nothing.
+use Rattle.std.specs.Prelude.{Ok}
 use mathlib.Core.Path.{◌≡◌, refl, ◌∙◌}
 use mathlib.Core.Bool.{false}
 use mathlib.Core.List.{List, []}
 use Prim.Native.Nat.{ℕ, ◌+◌, ◌≤◌, ◌<◌}
 use native.Mathlib.Omega.{arith}
 use lib.ListN.{length}
-use Rattle.sparse.specs.declared.Tested.TheVariants.{Good}
 use Rattle.linear.specs.Combination.{Combination}
 use Rattle.state.specs.Memory.{Memory, places}
 use Rattle.state.specs.State.{u_fault, u_lost, u_rows, l_fault}
@@ -63,7 +63,7 @@ module _ (c : Counts) (ps : List ℕ) (m : Memory) (w : Widenable c ps m) where
     state = parts_state (record { lost = found; fault = sound; multipliers = same_multipliers c.mode c (length ps) m.l_cols m.l_vals m.l_ptrs ∙ (parts c before w.stands).multipliers });
   }
 
-module _ (c : Counts) (ps : List ℕ) (m : Memory) (good : add_cols_test c ps m ≡ Good) where
+module _ (c : Counts) (ps : List ℕ) (m : Memory) (good : add_cols_test c ps m ≡ Ok tt) where
   -- a state again
   pub add_cols_stands : (dense : List ℕ) → Stands (wider_counts c (length ps)) (lists (widened c ps m) dense)
   add_cols_stands = after_stands c ps m (widenable c ps m good)

@@ -1,21 +1,23 @@
 -- Inserting columns in a reducer: U's columns and their pivots move, L and the values stay.
-use Rattle.std.specs.Prelude.{ℕ, ◌+◌, cond, List, [], ◌∷◌, map, ltb, eqb, length, get_or, take}
+use Rattle.std.specs.Prelude.{ℕ, ◌+◌, cond, List, [], ◌∷◌, map, ltb, eqb, length, get_or, take, Err, Ok, Result}
 use Rattle.lists.specs.Find.{least}
 use Rattle.lists.specs.Onto.{◌onto◌}
 use Rattle.lists.specs.Table.{table}
 use Rattle.sparse.specs.Lent.{Outcome, outcome, unless}
 use Rattle.sparse.specs.Pivots.{mark}
-use Rattle.sparse.specs.Refusals.{refuse, lowest}
+use Rattle.sparse.specs.Refusals.{refuse, lowest, Tested}
 use Rattle.sparse.specs.Tests.{modulus_test, size_test}
 use Rattle.sparse.specs.declared.Refusal.TheVariants.{Mismatch}
-use Rattle.sparse.specs.declared.Tested.{Tested}
 use Rattle.columns.specs.Positions.{positions_test, moved}
 use Rattle.state.specs.Fresh.{counts}
 use Rattle.state.specs.Memory.{Memory, memory}
 use Rattle.state.specs.State.{state_test}
 use Rattle.state.specs.declared.Counts.{Counts}
-use Rattle.widening.specs.declared.Widened.{Widened}
-use Rattle.widening.specs.declared.Widened.TheVariants.{Made, Refused as Unmoved}
+use Rattle.sparse.specs.declared.Refusal.{Refusal}
+
+-- the counts afterwards, or a refusal
+abbrev pub Widened : Type 0
+Widened = Result Counts Refusal
 
 -- 2, for the new columns too; 11, a pivot table shorter than all of them
 unfoldable pub width_test : ℕ → ℕ → ℕ → Tested
@@ -56,4 +58,4 @@ widened c positions m =
 
 -- refused, or made with the new column count
 unfoldable pub add_cols : Counts → List ℕ → Memory → Outcome Widened Memory
-add_cols c positions m = unless Unmoved (add_cols_test c positions m) m (outcome (Made (wider_counts c (length positions))) (widened c positions m))
+add_cols c positions m = unless Err (add_cols_test c positions m) m (outcome (Ok (wider_counts c (length positions))) (widened c positions m))

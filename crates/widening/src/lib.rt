@@ -7,12 +7,3 @@
 mod places;
 
 pub use places::add_cols;
-use sparse::Refusal;
-use state::Counts;
-
-// What inserting columns answers: the counts with the new column count, or why nothing moved.
-#[derive(Clone, Copy)]
-pub enum Widened {
-    Made(Counts),
-    Refused(Refusal),
-}

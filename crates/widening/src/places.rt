@@ -5,11 +5,10 @@ ghost use Rattle.state.specs.Memory.{memory};
 ghost use Rattle.widening.specs.Asks.{Spreads};
 ghost use Rattle.widening.specs.AddCols.{spread, wider_counts, width_test, add_cols_test, add_cols};
 
-use crate::Widened;
 use columns::positions::{move_columns, positions_test, wider_test};
 use pivots::inside::MARK;
 use sparse::inside::{modulus_test, size_test};
-use sparse::{MAX_ENTRIES, Refusal, Tested};
+use sparse::{MAX_ENTRIES, Refusal};
 use state::Counts;
 use state::inside::state_test;
 
@@ -25,19 +24,16 @@ pub fn add_cols(
     l_vals: &[u32],
     l_ptrs: &[usize],
     pivots: &mut [u32],
-) -> Widened
+) -> Result<Counts, Refusal>
     ensures { outcome result (memory u_cols.new u_vals.now u_ptrs.now l_cols.now l_vals.now l_ptrs.now pivots.new) ≡ add_cols counts positions.now (memory u_cols.old u_vals.now u_ptrs.now l_cols.now l_vals.now l_ptrs.now pivots.old) }
 {
-    let found = add_cols_test(
+    add_cols_test(
         counts, positions, u_cols, u_vals, u_ptrs, l_cols, l_vals, l_ptrs, pivots,
-    );
-    if let Tested::Refused(why) = found {
-        return Widened::Refused(why);
-    }
+    )?;
     let fill = counts.u_fill;
     move_columns(positions, &mut u_cols[..fill]);
     spread_pivots(counts.ncols, positions, pivots);
-    Widened::Made(wider_counts(counts, positions.len() as u32))
+    Ok(wider_counts(counts, positions.len() as u32))
 }
 
 // 1, 2 for the new columns too, 11, 12 and 13.
@@ -51,21 +47,12 @@ fn add_cols_test(
     l_vals: &[u32],
     l_ptrs: &[usize],
     pivots: &[u32],
-) -> Tested
+) -> Result<(), Refusal>
     ensures { result ≡ add_cols_test counts positions.now (memory u_cols.now u_vals.now u_ptrs.now l_cols.now l_vals.now l_ptrs.now pivots.now) }
 {
-    let modulus = modulus_test(counts.modulus);
-    if let Tested::Refused(why) = modulus {
-        return Tested::Refused(why);
-    }
-    let width = width_test(counts.ncols, positions.len(), pivots.len());
-    if let Tested::Refused(why) = width {
-        return Tested::Refused(why);
-    }
-    let order = positions_test(counts.ncols, positions);
-    if let Tested::Refused(why) = order {
-        return Tested::Refused(why);
-    }
+    modulus_test(counts.modulus)?;
+    width_test(counts.ncols, positions.len(), pivots.len())?;
+    positions_test(counts.ncols, positions)?;
     state_test(
         counts, u_cols, u_vals, u_ptrs, l_cols, l_vals, l_ptrs, pivots,
     )
@@ -73,21 +60,15 @@ fn add_cols_test(
 
 // 2, for the new columns too, and 11. The number of positions may be as long as a slice: the sum waits
 // for its limit.
-fn width_test(ncols: u32, more: usize, places: usize) -> Tested
+fn width_test(ncols: u32, more: usize, places: usize) -> Result<(), Refusal>
     ensures { result ≡ width_test ncols more places }
 {
-    let size = size_test(MAX_ENTRIES, 0, ncols, 0);
-    if let Tested::Refused(why) = size {
-        return Tested::Refused(why);
-    }
-    let wider = wider_test(0, ncols, 0, more);
-    if let Tested::Refused(why) = wider {
-        return Tested::Refused(why);
-    }
+    size_test(MAX_ENTRIES, 0, ncols, 0)?;
+    wider_test(0, ncols, 0, more)?;
     if places < ncols as usize + more {
-        return Tested::Refused(Refusal::Mismatch);
+        return Err(Refusal::Mismatch);
     }
-    Tested::Good
+    Ok(())
 }
 
 // Moves each pivot with its column, from the right so that none is written over before it is read:
@@ -98,6 +79,7 @@ fn spread_pivots(ncols: u32, positions: &[u32], pivots: &mut [u32])
 {
     let mut from = ncols as usize;
     let mut left = positions.len();
+    // A while: a turn lowers `left` for a new column, and `from` for an old one.
     while left > 0 {
         let to = from + left - 1;
         if positions[left - 1] as usize >= from {
@@ -115,14 +97,8 @@ fn wider_counts(counts: Counts, more: u32) -> Counts
     requires { counts.ncols + more ≤ 1024 }
     ensures { result ≡ wider_counts counts more }
 {
-    let mode = counts.mode;
     Counts {
-        mode,
-        modulus: counts.modulus,
         ncols: counts.ncols + more,
-        rank: counts.rank,
-        u_fill: counts.u_fill,
-        l_rows: counts.l_rows,
-        l_fill: counts.l_fill,
+        ..counts
     }
 }

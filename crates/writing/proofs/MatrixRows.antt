@@ -1,5 +1,6 @@
 -- A matrix read row by row: what its tests leave, and how many rows and entries it has.
 -- Assumes nothing.
+use Rattle.std.specs.Prelude.{Ok}
 use mathlib.Core.Path.{◌≡◌, sym, ap, ◌∙◌}
 use mathlib.Core.List.{[], flatten}
 use Prim.Native.Nat.{ℕ}
@@ -9,7 +10,6 @@ use Rattle.lists.proofs.Tables.{length-table, table_get_or}
 use Rattle.sparse.specs.Matrix.{Matrix, row}
 use Rattle.sparse.specs.Rows.{Entry, entries, rows_of, row_at, compressed}
 use Rattle.sparse.specs.Tests.{matrix_test}
-use Rattle.sparse.specs.declared.Tested.TheVariants.{Good}
 use Rattle.sparse.proofs.Cuts.{Laid, laid}
 use Rattle.sparse.proofs.Firsts.{lowest_good}
 use Rattle.meaning.proofs.RowLists.{compressed_rows}
@@ -17,7 +17,7 @@ use Rattle.writing.specs.Asks.{Readable}
 use Rattle.writing.proofs.Puttings.{Sized}
 
 -- 3 to 6 find nothing
-pub matrix_laid : (p : ℕ) (m : Matrix) → matrix_test p m ≡ Good → Laid m
+pub matrix_laid : (p : ℕ) (m : Matrix) → matrix_test p m ≡ Ok tt → Laid m
 unfolding matrix_test
 matrix_laid p m e =
     let h = lowest_good _ _ e in

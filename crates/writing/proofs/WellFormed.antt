@@ -1,5 +1,6 @@
 -- Rows that are good, written within the limits, make a well formed matrix.
 -- Assumes nothing.
+use Rattle.std.specs.Prelude.{Ok}
 use mathlib.Core.Path.{◌≡◌, refl, sym, ap, ◌∙◌}
 use mathlib.Core.List.{List, [], ◌∷◌, map, flatten}
 use Prim.Native.Nat.{ℕ, ◌+◌, ◌≤◌, ◌<◌}
@@ -13,7 +14,6 @@ use Rattle.sparse.specs.Matrix.{Matrix, part, row}
 use Rattle.sparse.specs.Refusals.{refuse, ◌else◌, lowest, first_of}
 use Rattle.sparse.specs.Rows.{Entry, row_at, offset, compressed}
 use Rattle.sparse.specs.Tests.{modulus_test, size_test, shape_test, columns_test, row_test, rows_test, values_test, rows_values_test, matrix_test, well_formed}
-use Rattle.sparse.specs.declared.Tested.TheVariants.{Good}
 use Rattle.sparse.specs.declared.inside.Clause.TheVariants.{Residue}
 use Rattle.sparse.proofs.Cuts.{Laid, formed_laid}
 use Rattle.sparse.proofs.Firsts.{else_good, lowest_good, each_good, lowest_next, lowest_last, all_good}
@@ -42,7 +42,7 @@ module _ (p n : ℕ) (rs : List (List Entry)) where
   within : (i : ℕ) → i ≤ length rs → get_or ptrs i 0 ≤ length vals
   within i h = omega (arith, pointer i h, offset_most rs i, length-map (flatten rs) (λ (e : Entry). e.value))
 
-  shaped : shape_test m ≡ Good
+  shaped : shape_test m ≡ Ok tt
   unfolding shape_test compressed refuse offset flatten
   shaped =
       let last : get_or ptrs (length rs) 0 ≡ length vals = pointer (length rs) (omega arith) ∙ ap (λ (l : List (List Entry)). length (flatten l)) (take_all (length rs) rs (omega arith)) ∙ sym (length-map (flatten rs) (λ (e : Entry). e.value)) in
@@ -74,29 +74,29 @@ module _ (p n : ℕ) (rs : List (List Entry)) where
     rises : x ≤ y
     rises = omega (arith, pointer i (omega arith), pointer (i + 1) (omega arith), offset_more rs i h)
 
-    row_good : columns_test n (map (λ (e : Entry). e.col) (get_or rs i [])) ≡ Good → row_test n cols x y ≡ Good
+    row_good : columns_test n (map (λ (e : Entry). e.col) (get_or rs i [])) ≡ Ok tt → row_test n cols x y ≡ Ok tt
     unfolding row_test refuse ◌else◌
     row_good e = rw (le-ltb y x rises, le-ltb (length cols) y (omega (arith, same, fits)), row_cols) e
 
-  pub rows_well_formed : modulus_test p ≡ Good → size_test 65536 (length rs) n (length (flatten rs)) ≡ Good
-      → ((i : ℕ) → i < length rs → columns_test n (map (λ e. e.col) (get_or rs i [])) ≡ Good)
-      → ((i : ℕ) → i < length rs → values_test Residue p (map (λ e. e.value) (get_or rs i [])) ≡ Good)
-      → well_formed 65536 p (compressed n rs) ≡ Good
+  pub rows_well_formed : modulus_test p ≡ Ok tt → size_test 65536 (length rs) n (length (flatten rs)) ≡ Ok tt
+      → ((i : ℕ) → i < length rs → columns_test n (map (λ e. e.col) (get_or rs i [])) ≡ Ok tt)
+      → ((i : ℕ) → i < length rs → values_test Residue p (map (λ e. e.value) (get_or rs i [])) ≡ Ok tt)
+      → well_formed 65536 p (compressed n rs) ≡ Ok tt
   unfolding well_formed matrix_test rows_test rows_values_test compressed row
   rows_well_formed modulus size columns numbers = sym (lowest_next _ refl modulus (lowest_next _ refl sized (lowest_last (lowest_next _ refl shaped (lowest_next _ refl lined (lowest_last (sym residues)))))))
     where
-      sized : size_test 65536 (length rs) n (length vals) ≡ Good
+      sized : size_test 65536 (length rs) n (length vals) ≡ Ok tt
       sized = ap (size_test 65536 (length rs) n) (length-map (flatten rs) (λ (e : Entry). e.value)) ∙ size
 
-      lined : first_of (length rs) (λ i. row_test n cols (get_or ptrs i 0) (get_or ptrs (i + 1) 0)) ≡ Good
+      lined : first_of (length rs) (λ i. row_test n cols (get_or ptrs i 0) (get_or ptrs (i + 1) 0)) ≡ Ok tt
       lined = all_good (length rs) (λ i. row_test n cols (get_or ptrs i 0) (get_or ptrs (i + 1) 0)) (λ i h. row_good i h (columns i h))
 
-      residues : first_of (length rs) (λ i. values_test Residue p (part (get_or ptrs i 0) (get_or ptrs (i + 1) 0) vals)) ≡ Good
+      residues : first_of (length rs) (λ i. values_test Residue p (part (get_or ptrs i 0) (get_or ptrs (i + 1) 0) vals)) ≡ Ok tt
       residues = all_good (length rs) (λ i. values_test Residue p (part (get_or ptrs i 0) (get_or ptrs (i + 1) 0) vals)) (λ i h. ap (values_test Residue p) (row_vals i h) ∙ numbers i h)
 
 -- what a well formed matrix tells of each of its rows
-module _ (p : ℕ) (m : Matrix) (good : well_formed 65536 p m ≡ Good) (i : ℕ) (h : i < m.nrows) where
-  matrix_good : lowest (shape_test m ∷ rows_test m.nrows m.ncols m.row_ptrs m.col_idcs ∷ rows_values_test Residue p m.nrows m.row_ptrs m.values ∷ []) ≡ Good
+module _ (p : ℕ) (m : Matrix) (good : well_formed 65536 p m ≡ Ok tt) (i : ℕ) (h : i < m.nrows) where
+  matrix_good : lowest (shape_test m ∷ rows_test m.nrows m.ncols m.row_ptrs m.col_idcs ∷ rows_values_test Residue p m.nrows m.row_ptrs m.values ∷ []) ≡ Ok tt
   unfolding well_formed matrix_test
   matrix_good = (lowest_good _ _ (lowest_good _ _ (lowest_good _ _ good).1).1).0
 
@@ -106,13 +106,13 @@ module _ (p : ℕ) (m : Matrix) (good : well_formed 65536 p m ≡ Good) (i : ℕ
   row_lines : RowParts m i
   row_lines = row_parts m i h laid_out.shape.col_each (laid_out.rows.within i h)
 
-  pub given_columns : columns_test m.ncols (map (λ e. e.col) (row_at m i)) ≡ Good
+  pub given_columns : columns_test m.ncols (map (λ e. e.col) (row_at m i)) ≡ Ok tt
   unfolding rows_test row_test
   given_columns =
       sym (ap (columns_test m.ncols) row_lines.cols)
       ∙ (else_good _ _ (each_good m.nrows (λ i. row_test m.ncols m.col_idcs (get_or m.row_ptrs i 0) (get_or m.row_ptrs (i + 1) 0)) (lowest_good _ _ (lowest_good _ _ matrix_good).1).0 i h)).1
 
-  pub given_values : values_test Residue p (map (λ e. e.value) (row_at m i)) ≡ Good
+  pub given_values : values_test Residue p (map (λ e. e.value) (row_at m i)) ≡ Ok tt
   unfolding rows_values_test row
   given_values =
       sym (ap (values_test Residue p) row_lines.vals)

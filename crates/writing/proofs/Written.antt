@@ -1,5 +1,6 @@
 -- Rows that are written, read as a matrix: each row is the one that was written, and what value lies at each place.
 -- Assumes nothing.
+use Rattle.std.specs.Prelude.{Ok}
 use mathlib.Core.Path.{◌≡◌, sym, ap, ap₂, ◌∙◌}
 use mathlib.Core.Bool.{cond}
 use mathlib.Core.List.{List, [], ◌∷◌, ◌++◌, map, map-append, flatten}
@@ -16,7 +17,6 @@ use Rattle.lists.proofs.Tables.{get_or-table}
 use Rattle.sparse.specs.Matrix.{Matrix, row, part, value_in, value_at}
 use Rattle.sparse.specs.Rows.{Entry, entry, entries, row_at, offset, compressed}
 use Rattle.sparse.specs.Tests.{row_test, rows_test, matrix_test, well_formed}
-use Rattle.sparse.specs.declared.Tested.TheVariants.{Good}
 use Rattle.sparse.proofs.Cuts.{Laid, formed_laid}
 use Rattle.sparse.proofs.Firsts.{else_good, each_good, lowest_good}
 use Rattle.meaning.proofs.Parts.{length_part}
@@ -91,7 +91,7 @@ unfolding value_in Σ
 value_single c v j = zero-add (cond (eqb c j) v 0)
 
 -- past the columns of a matrix lies nothing
-pub value_past : (m : Matrix) (i j : ℕ) → rows_test m.nrows m.ncols m.row_ptrs m.col_idcs ≡ Good → i < m.nrows → m.ncols ≤ j → value_at m i j ≡ 0
+pub value_past : (m : Matrix) (i j : ℕ) → rows_test m.nrows m.ncols m.row_ptrs m.col_idcs ≡ Ok tt → i < m.nrows → m.ncols ≤ j → value_at m i j ≡ 0
 unfolding value_at row rows_test row_test
 value_past m i j good h l =
     let climbs = columns_climb m.ncols _ (else_good _ _ (each_good m.nrows (λ i. row_test m.ncols m.col_idcs (get_or m.row_ptrs i 0) (get_or m.row_ptrs (i + 1) 0)) good i h)).1 in
@@ -100,9 +100,9 @@ value_past m i j good h l =
 -- what the tests of a matrix leave, for its values
 pub record Given (m : Matrix) : Type 0 where
   pub matrix_laid : Laid m
-  pub rows : rows_test m.nrows m.ncols m.row_ptrs m.col_idcs ≡ Good
+  pub rows : rows_test m.nrows m.ncols m.row_ptrs m.col_idcs ≡ Ok tt
 
-pub well_formed_lem : (p : ℕ) (m : Matrix) → well_formed 65536 p m ≡ Good → Given m
+pub well_formed_lem : (p : ℕ) (m : Matrix) → well_formed 65536 p m ≡ Ok tt → Given m
 unfolding well_formed matrix_test
 well_formed_lem p m e = record {
   matrix_laid = formed_laid 65536 p m e;

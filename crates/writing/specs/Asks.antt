@@ -1,11 +1,10 @@
 -- What the functions that write ask of their arguments: what the tests before them have shown.
-use Rattle.std.specs.Prelude.{◌≡◌, ℕ, ◌+◌, ◌≤◌, ◌<◌, length, get_or}
+use Rattle.std.specs.Prelude.{◌≡◌, ℕ, ◌+◌, ◌≤◌, ◌<◌, length, get_or, Ok}
 use mathlib.Core.List.{List, flatten}
 use Rattle.sparse.specs.Asks.{Cut}
 use Rattle.sparse.specs.Lent.{Lent, room_test}
 use Rattle.sparse.specs.Matrix.{Matrix, row}
 use Rattle.sparse.specs.Rows.{Entry, entries}
-use Rattle.sparse.specs.declared.Tested.TheVariants.{Good}
 use Rattle.writing.specs.Puts.{Put, Fits}
 
 -- by 3 and 4: row i lies within the entries; and there is room for it, with so many entries more
@@ -23,4 +22,4 @@ pub record Readable (m : Matrix) : Type 0 where
 
 -- by 14: these rows fit
 pub record Roomy (rs : List (List Entry)) (l : Lent) : Type 0 where
-  pub room : room_test (length rs) (length (flatten rs)) l ≡ Good
+  pub room : room_test (length rs) (length (flatten rs)) l ≡ Ok tt

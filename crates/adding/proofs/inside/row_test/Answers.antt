@@ -3,30 +3,30 @@
 use mathlib.Core.Path.{refl}
 use borrow.Author.Tests.{eq-eqb, ne_eqb}
 use Rattle.sparse.specs.Refusals.{refuse}
-use Rattle.sparse.proofs.Firsts.{lowest_stop, lowest_next, lowest_last}
+use Rattle.sparse.proofs.Firsts.{lowest_stop, lowest_next, lowest_last, handed}
 use Rattle.adding.specs.RowTests.{row_tests}
 use Rattle.adding.proofs.inside.row_test.Goals as goal
 
-pub returns-in-Refused : goal.returns-in-Refused
+pub returns-in_err-modulus_test : goal.returns-in_err-modulus_test
 unfolding row_tests
-returns-in-Refused c = lowest_stop _ c.modulus_test-modulus.ensures c.in-Refused.is
+returns-in_err-modulus_test c = rw (handed c.from_residual.ensures.1) (lowest_stop _ c.modulus_test.ensures c.in_err-modulus_test.was)
 
-pub returns-in-Refused-size : goal.returns-in-Refused-size
+pub returns-in_err-size_test : goal.returns-in_err-size_test
 unfolding row_tests
-returns-in-Refused-size c = lowest_next _ c.modulus_test-modulus.ensures c.in_default.is (lowest_stop _ c.size_test-size.ensures c.in-Refused-size.is)
+returns-in_err-size_test c = rw (handed c.from_residual-in_err-size_test.ensures.1) (lowest_next _ c.modulus_test.ensures c.in_ok-modulus_test.was (lowest_stop _ c.size_test.ensures c.in_err-size_test.was))
 
 pub returns-then-cols-vals : goal.returns-then-cols-vals
 unfolding row_tests refuse
-returns-then-cols-vals c = lowest_next _ c.modulus_test-modulus.ensures c.in_default.is (lowest_next _ c.size_test-size.ensures c.in_default-size.is (lowest_stop _ (rw (ne_eqb _ _ c.if-cols-vals.true)) refl))
+returns-then-cols-vals c = lowest_next _ c.modulus_test.ensures c.in_ok-modulus_test.was (lowest_next _ c.size_test.ensures c.in_ok-size_test.was (lowest_stop _ (rw (ne_eqb _ _ c.if-cols-vals.true)) refl))
 
-pub returns-in-Refused-columns : goal.returns-in-Refused-columns
+pub returns-in_err-columns_test : goal.returns-in_err-columns_test
 unfolding row_tests refuse
-returns-in-Refused-columns c = lowest_next _ c.modulus_test-modulus.ensures c.in_default.is (lowest_next _ c.size_test-size.ensures c.in_default-size.is (lowest_next _ (rw (eq-eqb _ _ c.if-cols-vals.false)) refl (lowest_stop _ c.columns_test-columns.ensures c.in-Refused-columns.is)))
+returns-in_err-columns_test c = rw (handed c.from_residual-in_err-columns_test.ensures.1) (lowest_next _ c.modulus_test.ensures c.in_ok-modulus_test.was (lowest_next _ c.size_test.ensures c.in_ok-size_test.was (lowest_next _ (rw (eq-eqb _ _ c.if-cols-vals.false)) refl (lowest_stop _ c.columns_test.ensures c.in_err-columns_test.was))))
 
-pub returns-in-Refused-residues : goal.returns-in-Refused-residues
+pub returns-in_err-values_test : goal.returns-in_err-values_test
 unfolding row_tests refuse
-returns-in-Refused-residues c = lowest_next _ c.modulus_test-modulus.ensures c.in_default.is (lowest_next _ c.size_test-size.ensures c.in_default-size.is (lowest_next _ (rw (eq-eqb _ _ c.if-cols-vals.false)) refl (lowest_next _ c.columns_test-columns.ensures c.in_default-columns.is (lowest_stop _ c.values_test-residues.ensures c.in-Refused-residues.is))))
+returns-in_err-values_test c = rw (handed c.from_residual-in_err-values_test.ensures.1) (lowest_next _ c.modulus_test.ensures c.in_ok-modulus_test.was (lowest_next _ c.size_test.ensures c.in_ok-size_test.was (lowest_next _ (rw (eq-eqb _ _ c.if-cols-vals.false)) refl (lowest_next _ c.columns_test.ensures c.in_ok-columns_test.was (lowest_stop _ c.values_test.ensures c.in_err-values_test.was)))))
 
 pub returns : goal.returns
 unfolding row_tests refuse
-returns c = lowest_next _ c.modulus_test-modulus.ensures c.in_default.is (lowest_next _ c.size_test-size.ensures c.in_default-size.is (lowest_next _ (rw (eq-eqb _ _ c.if-cols-vals.false)) refl (lowest_next _ c.columns_test-columns.ensures c.in_default-columns.is (lowest_next _ c.values_test-residues.ensures c.in_default-residues.is (lowest_last c.values_test.ensures)))))
+returns c = lowest_next _ c.modulus_test.ensures c.in_ok-modulus_test.was (lowest_next _ c.size_test.ensures c.in_ok-size_test.was (lowest_next _ (rw (eq-eqb _ _ c.if-cols-vals.false)) refl (lowest_next _ c.columns_test.ensures c.in_ok-columns_test.was (lowest_next _ c.values_test.ensures c.in_ok-values_test.was (lowest_last c.values_test-2.ensures)))))

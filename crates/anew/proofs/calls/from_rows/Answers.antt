@@ -4,8 +4,8 @@ use mathlib.Core.Path.{sym, ◌∙◌}
 use Rattle.anew.proofs.Anews.{from_anew, from_refused, from_taken}
 use Rattle.anew.proofs.calls.from_rows.Goals as goal
 
-pub returns-in-Refused : goal.returns-in-Refused
-returns-in-Refused c = from_refused _ _ _ _ _ _ c.from_matrix_test-tested.ensures c.in-Refused.is
+pub returns-in-Err : goal.returns-in-Err
+returns-in-Err c = from_refused _ _ _ _ _ _ c.from_matrix_test-tested.ensures c.in-Err.is
 
 pub take_anew-requires : goal.take_anew-requires
 take_anew-requires c = from_anew _ _ _ _ (sym c.from_matrix_test-tested.ensures ∙ c.in_default.is)

@@ -3,26 +3,26 @@
 use mathlib.Core.Path.{refl}
 use borrow.Author.Tests.{lt-ltb, le-ltb}
 use Rattle.sparse.specs.Refusals.{refuse}
-use Rattle.sparse.proofs.Firsts.{lowest_stop, lowest_next, lowest_last}
+use Rattle.sparse.proofs.Firsts.{lowest_stop, lowest_next, lowest_last, handed}
 use Rattle.backing.specs.Asks.{open_test}
 use Rattle.backing.proofs.back.open_test.Goals as goal
 
-pub returns-in-Refused : goal.returns-in-Refused
+pub returns-in_err-modulus_test : goal.returns-in_err-modulus_test
 unfolding open_test
-returns-in-Refused c = lowest_stop _ c.modulus_test-modulus.ensures c.in-Refused.is
+returns-in_err-modulus_test c = rw (handed c.from_residual.ensures.1) (lowest_stop _ c.modulus_test.ensures c.in_err-modulus_test.was)
 
-pub returns-in-Refused-size : goal.returns-in-Refused-size
+pub returns-in_err-size_test : goal.returns-in_err-size_test
 unfolding open_test
-returns-in-Refused-size c = lowest_next _ c.modulus_test-modulus.ensures c.in_default.is (lowest_stop _ c.size_test-size.ensures c.in-Refused-size.is)
+returns-in_err-size_test c = rw (handed c.from_residual-in_err-size_test.ensures.1) (lowest_next _ c.modulus_test.ensures c.in_ok-modulus_test.was (lowest_stop _ c.size_test.ensures c.in_err-size_test.was))
 
 pub returns-then-dense-ncols : goal.returns-then-dense-ncols
 unfolding open_test refuse
-returns-then-dense-ncols c = lowest_next _ c.modulus_test-modulus.ensures c.in_default.is (lowest_next _ c.size_test-size.ensures c.in_default-size.is (lowest_stop _ (rw (lt-ltb _ _ c.if-dense-ncols.true)) refl))
+returns-then-dense-ncols c = lowest_next _ c.modulus_test.ensures c.in_ok-modulus_test.was (lowest_next _ c.size_test.ensures c.in_ok-size_test.was (lowest_stop _ (rw (lt-ltb _ _ c.if-dense-ncols.true)) refl))
 
 pub returns-then-table-ncols : goal.returns-then-table-ncols
 unfolding open_test refuse
-returns-then-table-ncols c = lowest_next _ c.modulus_test-modulus.ensures c.in_default.is (lowest_next _ c.size_test-size.ensures c.in_default-size.is (lowest_stop _ (rw (le-ltb _ _ c.if-dense-ncols.false, lt-ltb _ _ c.if-table-ncols.true)) refl))
+returns-then-table-ncols c = lowest_next _ c.modulus_test.ensures c.in_ok-modulus_test.was (lowest_next _ c.size_test.ensures c.in_ok-size_test.was (lowest_stop _ (rw (le-ltb _ _ c.if-dense-ncols.false, lt-ltb _ _ c.if-table-ncols.true)) refl))
 
 pub returns : goal.returns
 unfolding open_test refuse
-returns c = lowest_next _ c.modulus_test-modulus.ensures c.in_default.is (lowest_next _ c.size_test-size.ensures c.in_default-size.is (lowest_last (rw (le-ltb _ _ c.if-dense-ncols.false, le-ltb _ _ c.if-table-ncols.false))))
+returns c = lowest_next _ c.modulus_test.ensures c.in_ok-modulus_test.was (lowest_next _ c.size_test.ensures c.in_ok-size_test.was (lowest_last (rw (le-ltb _ _ c.if-dense-ncols.false, le-ltb _ _ c.if-table-ncols.false))))

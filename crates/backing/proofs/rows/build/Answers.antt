@@ -2,7 +2,7 @@
 -- Assumes nothing.
 use native.Mathlib.Omega.{arith}
 use Rattle.sparse.specs.Matrix.{part, row}
-use Rattle.backing.proofs.Filled.{filling_few, long_cols, long_vals, long_ptrs, long_pivots, long_dense, filling_all}
+use Rattle.backing.proofs.Filled.{filling_few, filling_all}
 use Rattle.backing.proofs.Fillings.{filling_start, number_low, row_here, row_short, pointer_here, filling_clears, filling_more}
 use Rattle.backing.proofs.Fits.{builds_orders, rank_few}
 use Rattle.backing.proofs.rows.build.Goals as goal
@@ -12,12 +12,6 @@ order_down-requires c = builds_orders c.requires
 
 pub loop-done-init : goal.loop-done-init
 loop-done-init c = record { from = λ old-pivots old-ptrs b o. filling_start b o }
-
-pub overflow_add-row : goal.overflow_add-row
-overflow_add-row c = omega (arith, c.loop-done-test.true, rank_few c.requires)
-
-pub offset_bounds-back_ptrs-done : goal.offset_bounds-back_ptrs-done
-offset_bounds-back_ptrs-done c = omega (arith, c.loop-done-test.true, rank_few c.requires)
 
 pub bounds-back_ptrs-done : goal.bounds-back_ptrs-done
 bounds-back_ptrs-done c = omega (arith, pointer_here c.requires (c.loop-done.invariant.from _ _ c.requires c.order_down.ensures) (c.loop-done-test.true))
@@ -69,30 +63,9 @@ pub overflow_add-fill : goal.overflow_add-fill
 unfolding row part
 overflow_add-fill c = omega (arith, filling_few c.requires (filling_more c.requires (c.loop-done.invariant.from _ _ c.requires c.order_down.ensures) (c.loop-done-test.true) c.clear_row-fill.ensures))
 
-pub overflow_add-done : goal.overflow_add-done
-overflow_add-done c = omega (arith, c.loop-done-test.true, rank_few c.requires)
-
-pub loop-done-smaller : goal.loop-done-smaller
-loop-done-smaller c = omega (arith, c.loop-done-test.true)
-
 pub loop-done-preserved : goal.loop-done-preserved
 unfolding row part
 loop-done-preserved c = record { from = λ old-pivots old-ptrs b o. filling_more b (c.loop-done.invariant.from old-pivots old-ptrs b o) (c.loop-done-test.true) c.clear_row-fill.ensures }
-
-pub shape_of-dense : goal.shape_of-dense
-shape_of-dense c = long_dense c.requires (c.loop-done.invariant.from _ _ c.requires c.order_down.ensures)
-
-pub shape_of-back_cols : goal.shape_of-back_cols
-shape_of-back_cols c = long_cols c.requires (c.loop-done.invariant.from _ _ c.requires c.order_down.ensures)
-
-pub shape_of-back_vals : goal.shape_of-back_vals
-shape_of-back_vals c = long_vals c.requires (c.loop-done.invariant.from _ _ c.requires c.order_down.ensures)
-
-pub shape_of-back_ptrs : goal.shape_of-back_ptrs
-shape_of-back_ptrs c = long_ptrs c.requires (c.loop-done.invariant.from _ _ c.requires c.order_down.ensures)
-
-pub shape_of-pivots : goal.shape_of-pivots
-shape_of-pivots c = long_pivots c.requires (c.loop-done.invariant.from _ _ c.requires c.order_down.ensures)
 
 pub returns : goal.returns
 returns c = filling_all c.requires (c.loop-done.invariant.from _ _ c.requires c.order_down.ensures) (c.loop-done-test.false)

@@ -1,11 +1,7 @@
 -- `build` meets its contract. The loop's invariant: so many rows of the second U are there.
 -- Assumes nothing.
-use Prim.Native.Nat.{◌-◌}
 use Rattle.backing.proofs.Filled.{Along}
 use Rattle.backing.proofs.rows.build.Given as goal
 
 abbrev pub invariant-loop-done : goal.invariant-loop-done
 invariant-loop-done l = Along l.counts l.u_cols l.u_vals l.u_ptrs l.initial.back_ptrs l.initial.back_cols l.initial.back_vals l.initial.pivots l.initial.dense l.done l.fill l.back_ptrs l.back_cols l.back_vals l.pivots l.dense
-
-abbrev pub decreases-loop-done : goal.decreases-loop-done
-decreases-loop-done l = l.rank - l.done

@@ -10,10 +10,10 @@ returns-in_default c = rw c.in_default.is
 
 pub returns-in_default-second : goal.returns-in_default-second
 unfolding lower
-returns-in_default-second c = rw (c.in-Refused.is, c.in_default-second.is)
+returns-in_default-second c = rw (c.in-Err.is, c.in_default-second.is)
 
-pub returns-then-number_of : goal.returns-then-number_of
-returns-then-number_of c = lower_first c.in-Refused.is c.in-Refused-second.is c.number_of.ensures c.number_of-2.ensures c.if-number_of.true
+pub returns-then-from : goal.returns-then-from
+returns-then-from c = lower_first c.in-Err.is c.in-Err-second.is c.from.ensures c.from-2.ensures c.if-from.true
 
 pub returns : goal.returns
-returns c = lower_second c.in-Refused.is c.in-Refused-second.is c.number_of.ensures c.number_of-2.ensures c.if-number_of.false
+returns c = lower_second c.in-Err.is c.in-Err-second.is c.from.ensures c.from-2.ensures c.if-from.false

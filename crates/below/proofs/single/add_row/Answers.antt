@@ -1,5 +1,7 @@
 -- `add_row` meets its contract: a refusal leaves the memory as it came, and what passes is written.
 -- Assumes nothing.
+use Rattle.sparse.proofs.Firsts.{handed}
+use Rattle.std.specs.Prelude.{Ok}
 use mathlib.Core.Path.{◌≡◌, sym, ap, ◌∙◌}
 use mathlib.Core.List.{List, ◌++◌}
 use native.Mathlib.Omega.{arith}
@@ -7,36 +9,35 @@ use Rattle.sparse.specs.Lent.{lent}
 use Rattle.sparse.specs.Matrix.{matrix}
 use Rattle.sparse.specs.Put.{put_rows}
 use Rattle.sparse.specs.Rows.{Entry, rows_of}
-use Rattle.sparse.specs.declared.Tested.TheVariants.{Good}
 use Rattle.writing.proofs.Puttings.{put_refused, put_no_room, put_made}
 use Rattle.below.specs.Below.{add_row, add_row_test}
 use Rattle.below.specs.Parts.{rows_in}
 use Rattle.below.proofs.Appends.{row_alone}
 use Rattle.below.proofs.Passed.{added_sized, row_small, added_fits}
 use Rattle.below.proofs.single.add_row.Goals as goal
-use Rattle.below.proofs.single.add_row.Goals.{In_default}
+use Rattle.below.proofs.single.add_row.Goals.{In_ok-add_row_test}
 
-tested : (c : In_default) → add_row_test c.args.p (matrix c.args.nrows c.args.ncols c.args.row_ptrs.now c.args.col_idcs.now c.args.values.now) c.args.cols.now c.args.vals.now ≡ Good
-tested c = sym c.add_row_test-found.ensures ∙ c.in_default.is
+tested : (c : In_ok-add_row_test) → add_row_test c.args.p (matrix c.args.nrows c.args.ncols c.args.row_ptrs.now c.args.col_idcs.now c.args.values.now) c.args.cols.now c.args.vals.now ≡ Ok tt
+tested c = sym c.add_row_test.ensures ∙ c.in_ok-add_row_test.was
 
-pub returns-in-Refused : goal.returns-in-Refused
+pub returns-in_err-add_row_test : goal.returns-in_err-add_row_test
 unfolding add_row
-returns-in-Refused c = put_refused _ _ c.add_row_test-found.ensures c.in-Refused.is
+returns-in_err-add_row_test c = rw (handed c.from_residual.ensures.1) (put_refused _ _ c.add_row_test.ensures c.in_err-add_row_test.was)
 
 pub overflow_add-nrows : goal.overflow_add-nrows
-overflow_add-nrows c = let few = row_small c.args.p (matrix c.args.nrows c.args.ncols c.args.row_ptrs.now c.args.col_idcs.now c.args.values.now) c.args.cols.now c.args.vals.now (tested (goal.at.overflow_add-nrows c).In_default) in
+overflow_add-nrows c = let few = row_small c.args.p (matrix c.args.nrows c.args.ncols c.args.row_ptrs.now c.args.col_idcs.now c.args.values.now) c.args.cols.now c.args.vals.now (tested (goal.at.overflow_add-nrows c).In_ok-add_row_test) in
     omega arith
 
-pub returns-in-Refused-room : goal.returns-in-Refused-room
+pub returns-in_err-room_test : goal.returns-in_err-room_test
 unfolding add_row
-returns-in-Refused-room c = let good = tested (goal.at.returns-in-Refused-room c).In_default in
-    put_no_room _ _ good (added_sized c.args.p (matrix c.args.nrows c.args.ncols c.args.row_ptrs.now c.args.col_idcs.now c.args.values.now) c.args.cols.now c.args.vals.now good) c.room_test-room.ensures c.in-Refused-room.is
+returns-in_err-room_test c = rw (handed c.from_residual-in_err-room_test.ensures.1) (let good = tested (goal.at.returns-in_err-room_test c).In_ok-add_row_test in
+    put_no_room _ _ good (added_sized c.args.p (matrix c.args.nrows c.args.ncols c.args.row_ptrs.now c.args.col_idcs.now c.args.values.now) c.args.cols.now c.args.vals.now good) c.room_test.ensures c.in_err-room_test.was)
 
 pub write_rows-requires : goal.write_rows-requires
-write_rows-requires c = added_fits c.args.p (matrix c.args.nrows c.args.ncols c.args.row_ptrs.now c.args.col_idcs.now c.args.values.now) c.args.cols.now c.args.vals.now (tested (goal.at.write_rows-requires c).In_default) _ c.room_test-room.ensures c.in_default-room.is
+write_rows-requires c = added_fits c.args.p (matrix c.args.nrows c.args.ncols c.args.row_ptrs.now c.args.col_idcs.now c.args.values.now) c.args.cols.now c.args.vals.now (tested (goal.at.write_rows-requires c).In_ok-add_row_test) _ c.room_test.ensures c.in_ok-room_test.was
 
 pub returns : goal.returns
 unfolding add_row rows_of rows_in
-returns c = let good = tested (goal.at.returns c).In_default in
-    put_made _ _ good (added_sized c.args.p (matrix c.args.nrows c.args.ncols c.args.row_ptrs.now c.args.col_idcs.now c.args.values.now) c.args.cols.now c.args.vals.now good) c.room_test-room.ensures c.in_default-room.is
+returns c = let good = tested (goal.at.returns c).In_ok-add_row_test in
+    put_made _ _ good (added_sized c.args.p (matrix c.args.nrows c.args.ncols c.args.row_ptrs.now c.args.col_idcs.now c.args.values.now) c.args.cols.now c.args.vals.now good) c.room_test.ensures c.in_ok-room_test.was
     (c.write_rows.ensures ∙ ap (λ (rs : List (List Entry)). put_rows (rows_of (matrix c.args.nrows c.args.ncols c.args.row_ptrs.now c.args.col_idcs.now c.args.values.now) ++ rs) (lent c.args.out_ptrs.now c.args.out_cols.now c.args.out_vals.now)) (row_alone c.args.cols.now c.args.vals.now))

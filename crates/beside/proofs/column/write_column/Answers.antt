@@ -1,8 +1,7 @@
 -- `write_column` meets its contract. The loop's invariant: the rows before `row` are written, each with its entry of the vector, and the
--- cursor stands behind these. Assumes nothing.
+-- cursor stands behind these.
 use mathlib.Core.Path.{sym}
 use native.Mathlib.Omega.{arith}
-use borrow.Author.Rules.{rules}
 use Rattle.lists.proofs.Tables.{length-table}
 use Rattle.sparse.specs.Rows.{entries}
 use Rattle.writing.proofs.RowLoops.{room_for, rows_start, rows_end, keep_ptrs, keep_cols, keep_vals, next_place}
@@ -16,7 +15,7 @@ pub bounds-out_ptrs-0 : goal.bounds-out_ptrs-0
 bounds-out_ptrs-0 c = omega (arith, (room_for _ _ _ _ c.requires.rows).pointers)
 
 pub loop-row-init : goal.loop-row-init
-loop-row-init c = (rows_start _ _ _ _ c.requires.rows, sym (none_below c.args.idcs.now), search rules)
+loop-row-init c = (rows_start _ _ _ _ c.requires.rows, sym (none_below c.args.idcs.now))
 
 pub put_column_row-at-requires : goal.put_column_row-at-requires
 unfolding with_column in_column
@@ -34,7 +33,7 @@ bounds-out_ptrs-row c = next_place _ _ _ _ c.requires.rows c.loop-row.invariant.
 
 pub loop-row-preserved : goal.loop-row-preserved
 unfolding with_column in_column
-loop-row-preserved c = (beside_next _ (in_column c.args.ncols (entries c.args.idcs.now c.args.nums.now)) _ _ _ c.requires.from c.requires.rows c.loop-row.invariant.0 c.loop-row-test.true c.put_column_row-at.ensures, c.past_row-next.ensures, search rules)
+loop-row-preserved c = (beside_next _ (in_column c.args.ncols (entries c.args.idcs.now c.args.nums.now)) _ _ _ c.requires.from c.requires.rows c.loop-row.invariant.0 c.loop-row-test.true c.put_column_row-at.ensures, c.past_row-next.ensures)
 
 pub shape_of-out_ptrs : goal.shape_of-out_ptrs
 shape_of-out_ptrs c = keep_ptrs _ _ _ _ c.requires.rows c.loop-row.invariant.0

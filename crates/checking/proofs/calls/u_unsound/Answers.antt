@@ -7,8 +7,8 @@ use Rattle.checking.proofs.calls.u_unsound.Goals as goal
 pub overflow_sub-counts : goal.overflow_sub-counts
 overflow_sub-counts c = omega (arith, c.requires.pointers)
 
-pub state_test-requires : goal.state_test-requires
-state_test-requires c = c.requires.opened
+pub state_test-state-requires : goal.state_test-state-requires
+state_test-state-requires c = c.requires.opened
 
 pub returns : goal.returns
-returns c = whole_fault c.requires c.state_test.ensures c.is_refused.ensures
+returns c = whole_fault c.requires c.state_test-state.ensures c.is_err.ensures.value

@@ -1,5 +1,4 @@
 -- `rows_fault` meets its contract. The loop's invariant: the first i rows aren't wrong, so many were accepted, and so many L rows are used.
--- Assumes nothing.
 use mathlib.Core.Path.{ap}
 use native.Mathlib.Omega.{arith}
 use lib.ListN.{length}
@@ -8,32 +7,14 @@ use Rattle.telling.specs.Answers.{none}
 use Rattle.checking.proofs.Turns.{turn_none, turn_place, turn_row, turn_wrong, turn_more, turn_u_left, turn_l_left, stays, one_most}
 use Rattle.checking.proofs.rows.rows_fault.Goals as goal
 
-pub overflow_sub-rank : goal.overflow_sub-rank
-overflow_sub-rank c = omega (arith, c.requires.pointers)
-
 pub loop-i-init : goal.loop-i-init
 loop-i-init c = turn_none c.requires
-
-pub offset_bounds-row_ptrs-i : goal.offset_bounds-row_ptrs-i
-offset_bounds-row_ptrs-i c = omega (arith, turn_place c.requires c.loop-i.invariant c.loop-i-test.true)
 
 pub bounds-row_ptrs-i : goal.bounds-row_ptrs-i
 bounds-row_ptrs-i c = omega (arith, turn_place c.requires c.loop-i.invariant c.loop-i-test.true)
 
-pub overflow_add-stop : goal.overflow_add-stop
-overflow_add-stop c = omega (arith, turn_place c.requires c.loop-i.invariant c.loop-i-test.true)
-
-pub offset_bounds-row_ptrs-i-in-loop-i : goal.offset_bounds-row_ptrs-i-in-loop-i
-offset_bounds-row_ptrs-i-in-loop-i c = omega (arith, turn_place c.requires c.loop-i.invariant c.loop-i-test.true)
-
 pub bounds-row_ptrs-i-in-loop-i : goal.bounds-row_ptrs-i-in-loop-i
 bounds-row_ptrs-i-in-loop-i c = omega (arith, turn_place c.requires c.loop-i.invariant c.loop-i-test.true)
-
-pub offset_bounds-answers-i : goal.offset_bounds-answers-i
-offset_bounds-answers-i c = omega (arith, c.loop-i-test.true, c.requires.answers)
-
-pub bounds-answers-i : goal.bounds-answers-i
-bounds-answers-i c = omega (arith, c.loop-i-test.true, c.requires.answers)
 
 pub offset_bounds-col_idcs-start : goal.offset_bounds-col_idcs-start
 offset_bounds-col_idcs-start c = omega (arith, turn_place c.requires c.loop-i.invariant c.loop-i-test.true)
@@ -80,12 +61,6 @@ overflow_add-used c = omega (arith, c.loop-i.invariant.low, turn_place c.require
 pub overflow_add-accepted : goal.overflow_add-accepted
 overflow_add-accepted c = omega (arith, c.loop-i.invariant.most, turn_place c.requires c.loop-i.invariant c.loop-i-test.true, one_most _ c.one_if-accepted.ensures)
 
-pub overflow_add-i : goal.overflow_add-i
-overflow_add-i c = omega (arith, turn_place c.requires c.loop-i.invariant c.loop-i-test.true)
-
-pub loop-i-smaller : goal.loop-i-smaller
-loop-i-smaller c = omega (arith, c.loop-i-test.true)
-
 pub loop-i-preserved : goal.loop-i-preserved
 unfolding row part none
 loop-i-preserved c = turn_more c.requires c.loop-i.invariant c.loop-i-test.true c.row_fault.ensures c.if-row_fault.false c.is_at_once.ensures c.one_if-used.ensures c.one_if-accepted.ensures
@@ -95,9 +70,6 @@ shape_of-dense-then-accepted-rank c = ap length c.loop-i.invariant.same
 
 pub returns-then-accepted-rank : goal.returns-then-accepted-rank
 returns-then-accepted-rank c = turn_u_left c.requires c.loop-i.invariant c.loop-i-test.false c.if-accepted-rank.true
-
-pub overflow_sub-result : goal.overflow_sub-result
-overflow_sub-result c = omega (arith, c.requires.lower.cut.many)
 
 pub shape_of-dense : goal.shape_of-dense
 shape_of-dense c = ap length c.loop-i.invariant.same

@@ -1,6 +1,4 @@
 -- `rows_fault` meets its contract. The loop's invariant: the first i rows aren't wrong, so many were accepted, and so many L rows are used.
--- Assumes nothing.
-use Prim.Native.Nat.{◌-◌}
 use Rattle.sparse.specs.Matrix.{matrix}
 use Rattle.state.specs.Memory.{memory}
 use Rattle.accounts.specs.Account.{account}
@@ -9,6 +7,3 @@ use Rattle.checking.proofs.rows.rows_fault.Given as goal
 
 abbrev pub invariant-loop-i : goal.invariant-loop-i
 invariant-loop-i l = Turn (account l.p (matrix l.nrows l.ncols l.row_ptrs l.col_idcs l.values) l.answers (memory l.u_cols l.u_vals l.u_ptrs l.l_cols l.l_vals l.l_ptrs l.pivots)) l.initial.dense l.i l.accepted l.used l.dense
-
-abbrev pub decreases-loop-i : goal.decreases-loop-i
-decreases-loop-i l = l.nrows - l.i

@@ -1,21 +1,21 @@
 -- `rows_test` meets its contract: the first test that refuses decides.
 -- Assumes nothing.
-use Rattle.sparse.proofs.Firsts.{lowest_stop, lowest_next, lowest_last}
+use Rattle.sparse.proofs.Firsts.{lowest_stop, lowest_next, lowest_last, handed}
 use Rattle.checking.specs.Rows.{rows_tests}
 use Rattle.checking.proofs.tests.rows_test.Goals as goal
 
-pub returns-in-Refused : goal.returns-in-Refused
+pub returns-in_err-modulus_test : goal.returns-in_err-modulus_test
 unfolding rows_tests
-returns-in-Refused c = lowest_stop _ c.modulus_test-modulus.ensures c.in-Refused.is
+returns-in_err-modulus_test c = rw (handed c.from_residual.ensures.1) (lowest_stop _ c.modulus_test.ensures c.in_err-modulus_test.was)
 
-pub returns-in-Refused-size : goal.returns-in-Refused-size
+pub returns-in_err-size_test : goal.returns-in_err-size_test
 unfolding rows_tests
-returns-in-Refused-size c = lowest_next _ c.modulus_test-modulus.ensures c.in_default.is (lowest_stop _ c.size_test-size.ensures c.in-Refused-size.is)
+returns-in_err-size_test c = rw (handed c.from_residual-in_err-size_test.ensures.1) (lowest_next _ c.modulus_test.ensures c.in_ok-modulus_test.was (lowest_stop _ c.size_test.ensures c.in_err-size_test.was))
 
-pub returns-in-Refused-each : goal.returns-in-Refused-each
+pub returns-in_err-answers_test : goal.returns-in_err-answers_test
 unfolding rows_tests
-returns-in-Refused-each c = lowest_next _ c.modulus_test-modulus.ensures c.in_default.is (lowest_next _ c.size_test-size.ensures c.in_default-size.is (lowest_stop _ c.answers_test-each.ensures c.in-Refused-each.is))
+returns-in_err-answers_test c = rw (handed c.from_residual-in_err-answers_test.ensures.1) (lowest_next _ c.modulus_test.ensures c.in_ok-modulus_test.was (lowest_next _ c.size_test.ensures c.in_ok-size_test.was (lowest_stop _ c.answers_test.ensures c.in_err-answers_test.was)))
 
 pub returns : goal.returns
 unfolding rows_tests
-returns c = lowest_next _ c.modulus_test-modulus.ensures c.in_default.is (lowest_next _ c.size_test-size.ensures c.in_default-size.is (lowest_next _ c.answers_test-each.ensures c.in_default-each.is (lowest_last c.try_from_csr_clean.ensures)))
+returns c = lowest_next _ c.modulus_test.ensures c.in_ok-modulus_test.was (lowest_next _ c.size_test.ensures c.in_ok-size_test.was (lowest_next _ c.answers_test.ensures c.in_ok-answers_test.was (lowest_last c.try_from_csr_clean.ensures)))

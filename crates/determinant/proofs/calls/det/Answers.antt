@@ -4,8 +4,8 @@ use mathlib.Core.Path.{sym, ◌∙◌}
 use Rattle.determinant.proofs.Dets.{det_anew, det_refused, det_readable, det_valued}
 use Rattle.determinant.proofs.calls.det.Goals as goal
 
-pub returns-in-Refused : goal.returns-in-Refused
-returns-in-Refused c = det_refused _ _ _ c.det_test-tested.ensures c.in-Refused.is
+pub returns-in-Err : goal.returns-in-Err
+returns-in-Err c = det_refused _ _ _ c.det_test-tested.ensures c.in-Err.is
 
 pub take_anew-reduced-requires : goal.take_anew-reduced-requires
 take_anew-reduced-requires c = det_anew _ _ _ (sym c.det_test-tested.ensures ∙ c.in_default.is)

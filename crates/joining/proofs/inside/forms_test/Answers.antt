@@ -1,72 +1,71 @@
 -- `forms_test` meets its contract: the tests stand in the table's order, so the first that refuses decides.
 -- Assumes nothing.
+use Rattle.std.specs.Prelude.{Ok}
 use mathlib.Core.Path.{◌≡◌, refl, sym, ◌∙◌}
 use lib.ListN.{drop}
 use borrow.Author.Tests.{eq-eqb, ne_eqb}
 use Rattle.sparse.specs.Matrix.{matrix}
-use Rattle.sparse.specs.Refusals.{refuse, lowest}
+use Rattle.sparse.specs.Refusals.{refuse, lowest, Tested}
 use Rattle.sparse.specs.Tests.{shape_test, rows_test}
-use Rattle.sparse.specs.declared.Tested.{Tested}
-use Rattle.sparse.specs.declared.Tested.TheVariants.{Good}
 use Rattle.sparse.proofs.Cuts.{pointers, cut}
-use Rattle.sparse.proofs.Firsts.{lowest_stop, lowest_next, lowest_last}
+use Rattle.sparse.proofs.Firsts.{lowest_stop, lowest_next, lowest_last, handed}
 use Rattle.joining.specs.Joined.{forms_tests, pairs_test}
 use Rattle.joining.proofs.inside.forms_test.Goals as goal
-use Rattle.joining.proofs.inside.forms_test.Goals.{Else-idcs-nums, In_default, In_default-columns, In_default-residues, In_default-rows}
+use Rattle.joining.proofs.inside.forms_test.Goals.{Else-idcs-nums, In_ok-shape_test, In_ok-columns_test, In_ok-rows_values_test, In_ok-rows_test}
 
-shaped : (c : In_default) → shape_test (matrix c.args.nrows c.args.ncols c.args.row_ptrs.now c.args.col_idcs.now c.args.values.now) ≡ Good
-shaped c = sym c.shape_test-shape.ensures ∙ c.in_default.is
+shaped : (c : In_ok-shape_test) → shape_test (matrix c.args.nrows c.args.ncols c.args.row_ptrs.now c.args.col_idcs.now c.args.values.now) ≡ Ok tt
+shaped c = sym c.shape_test.ensures ∙ c.in_ok-shape_test.was
 
-lined : (c : In_default-rows) → let m = (matrix c.args.nrows c.args.ncols c.args.row_ptrs.now c.args.col_idcs.now c.args.values.now) in rows_test m.nrows m.ncols m.row_ptrs m.col_idcs ≡ Good
-lined c = sym c.rows_test-rows.ensures ∙ c.in_default-rows.is
+lined : (c : In_ok-rows_test) → let m = (matrix c.args.nrows c.args.ncols c.args.row_ptrs.now c.args.col_idcs.now c.args.values.now) in rows_test m.nrows m.ncols m.row_ptrs m.col_idcs ≡ Ok tt
+lined c = sym c.rows_test.ensures ∙ c.in_ok-rows_test.was
 
 -- after each test that found nothing, the rest decides
-past_shape : (c : In_default) {x : Tested} → x ≡ lowest (drop 1 (forms_tests c.args.p (matrix c.args.nrows c.args.ncols c.args.row_ptrs.now c.args.col_idcs.now c.args.values.now) c.args.len c.args.idcs.now c.args.nums.now)) → x ≡ lowest (forms_tests c.args.p (matrix c.args.nrows c.args.ncols c.args.row_ptrs.now c.args.col_idcs.now c.args.values.now) c.args.len c.args.idcs.now c.args.nums.now)
+past_shape : (c : In_ok-shape_test) {x : Tested} → x ≡ lowest (drop 1 (forms_tests c.args.p (matrix c.args.nrows c.args.ncols c.args.row_ptrs.now c.args.col_idcs.now c.args.values.now) c.args.len c.args.idcs.now c.args.nums.now)) → x ≡ lowest (forms_tests c.args.p (matrix c.args.nrows c.args.ncols c.args.row_ptrs.now c.args.col_idcs.now c.args.values.now) c.args.len c.args.idcs.now c.args.nums.now)
 unfolding forms_tests
-past_shape c h = lowest_next _ c.shape_test-shape.ensures c.in_default.is h
+past_shape c h = lowest_next _ c.shape_test.ensures c.in_ok-shape_test.was h
 
 past_pairs : (c : Else-idcs-nums) {x : Tested} → x ≡ lowest (drop 2 (forms_tests c.args.p (matrix c.args.nrows c.args.ncols c.args.row_ptrs.now c.args.col_idcs.now c.args.values.now) c.args.len c.args.idcs.now c.args.nums.now)) → x ≡ lowest (forms_tests c.args.p (matrix c.args.nrows c.args.ncols c.args.row_ptrs.now c.args.col_idcs.now c.args.values.now) c.args.len c.args.idcs.now c.args.nums.now)
 unfolding forms_tests pairs_test refuse
-past_pairs c h = (lowest_next _ c.shape_test-shape.ensures c.in_default.is (lowest_next _ refl (rw (eq-eqb _ _ c.if-idcs-nums.false)) h))
+past_pairs c h = (lowest_next _ c.shape_test.ensures c.in_ok-shape_test.was (lowest_next _ refl (rw (eq-eqb _ _ c.if-idcs-nums.false)) h))
 
-past_rows : (c : In_default-rows) {x : Tested} → x ≡ lowest (drop 3 (forms_tests c.args.p (matrix c.args.nrows c.args.ncols c.args.row_ptrs.now c.args.col_idcs.now c.args.values.now) c.args.len c.args.idcs.now c.args.nums.now)) → x ≡ lowest (forms_tests c.args.p (matrix c.args.nrows c.args.ncols c.args.row_ptrs.now c.args.col_idcs.now c.args.values.now) c.args.len c.args.idcs.now c.args.nums.now)
+past_rows : (c : In_ok-rows_test) {x : Tested} → x ≡ lowest (drop 3 (forms_tests c.args.p (matrix c.args.nrows c.args.ncols c.args.row_ptrs.now c.args.col_idcs.now c.args.values.now) c.args.len c.args.idcs.now c.args.nums.now)) → x ≡ lowest (forms_tests c.args.p (matrix c.args.nrows c.args.ncols c.args.row_ptrs.now c.args.col_idcs.now c.args.values.now) c.args.len c.args.idcs.now c.args.nums.now)
 unfolding forms_tests pairs_test refuse
-past_rows c h = (lowest_next _ c.shape_test-shape.ensures c.in_default.is (lowest_next _ refl (rw (eq-eqb _ _ c.if-idcs-nums.false)) (lowest_next _ c.rows_test-rows.ensures c.in_default-rows.is h)))
+past_rows c h = (lowest_next _ c.shape_test.ensures c.in_ok-shape_test.was (lowest_next _ refl (rw (eq-eqb _ _ c.if-idcs-nums.false)) (lowest_next _ c.rows_test.ensures c.in_ok-rows_test.was h)))
 
-past_columns : (c : In_default-columns) {x : Tested} → x ≡ lowest (drop 4 (forms_tests c.args.p (matrix c.args.nrows c.args.ncols c.args.row_ptrs.now c.args.col_idcs.now c.args.values.now) c.args.len c.args.idcs.now c.args.nums.now)) → x ≡ lowest (forms_tests c.args.p (matrix c.args.nrows c.args.ncols c.args.row_ptrs.now c.args.col_idcs.now c.args.values.now) c.args.len c.args.idcs.now c.args.nums.now)
+past_columns : (c : In_ok-columns_test) {x : Tested} → x ≡ lowest (drop 4 (forms_tests c.args.p (matrix c.args.nrows c.args.ncols c.args.row_ptrs.now c.args.col_idcs.now c.args.values.now) c.args.len c.args.idcs.now c.args.nums.now)) → x ≡ lowest (forms_tests c.args.p (matrix c.args.nrows c.args.ncols c.args.row_ptrs.now c.args.col_idcs.now c.args.values.now) c.args.len c.args.idcs.now c.args.nums.now)
 unfolding forms_tests pairs_test refuse
-past_columns c h = (lowest_next _ c.shape_test-shape.ensures c.in_default.is (lowest_next _ refl (rw (eq-eqb _ _ c.if-idcs-nums.false)) (lowest_next _ c.rows_test-rows.ensures c.in_default-rows.is (lowest_next _ c.columns_test-columns.ensures c.in_default-columns.is h))))
+past_columns c h = (lowest_next _ c.shape_test.ensures c.in_ok-shape_test.was (lowest_next _ refl (rw (eq-eqb _ _ c.if-idcs-nums.false)) (lowest_next _ c.rows_test.ensures c.in_ok-rows_test.was (lowest_next _ c.columns_test.ensures c.in_ok-columns_test.was h))))
 
-past_residues : (c : In_default-residues) {x : Tested} → x ≡ lowest (drop 5 (forms_tests c.args.p (matrix c.args.nrows c.args.ncols c.args.row_ptrs.now c.args.col_idcs.now c.args.values.now) c.args.len c.args.idcs.now c.args.nums.now)) → x ≡ lowest (forms_tests c.args.p (matrix c.args.nrows c.args.ncols c.args.row_ptrs.now c.args.col_idcs.now c.args.values.now) c.args.len c.args.idcs.now c.args.nums.now)
+past_residues : (c : In_ok-rows_values_test) {x : Tested} → x ≡ lowest (drop 5 (forms_tests c.args.p (matrix c.args.nrows c.args.ncols c.args.row_ptrs.now c.args.col_idcs.now c.args.values.now) c.args.len c.args.idcs.now c.args.nums.now)) → x ≡ lowest (forms_tests c.args.p (matrix c.args.nrows c.args.ncols c.args.row_ptrs.now c.args.col_idcs.now c.args.values.now) c.args.len c.args.idcs.now c.args.nums.now)
 unfolding forms_tests pairs_test refuse
-past_residues c h = (lowest_next _ c.shape_test-shape.ensures c.in_default.is (lowest_next _ refl (rw (eq-eqb _ _ c.if-idcs-nums.false)) (lowest_next _ c.rows_test-rows.ensures c.in_default-rows.is (lowest_next _ c.columns_test-columns.ensures c.in_default-columns.is (lowest_next _ c.rows_values_test-residues.ensures c.in_default-residues.is h)))))
+past_residues c h = (lowest_next _ c.shape_test.ensures c.in_ok-shape_test.was (lowest_next _ refl (rw (eq-eqb _ _ c.if-idcs-nums.false)) (lowest_next _ c.rows_test.ensures c.in_ok-rows_test.was (lowest_next _ c.columns_test.ensures c.in_ok-columns_test.was (lowest_next _ c.rows_values_test.ensures c.in_ok-rows_values_test.was h)))))
 
-pub returns-in-Refused : goal.returns-in-Refused
+pub returns-in_err-shape_test : goal.returns-in_err-shape_test
 unfolding forms_tests
-returns-in-Refused c = lowest_stop _ c.shape_test-shape.ensures c.in-Refused.is
+returns-in_err-shape_test c = rw (handed c.from_residual.ensures.1) (lowest_stop _ c.shape_test.ensures c.in_err-shape_test.was)
 
 pub returns-then-idcs-nums : goal.returns-then-idcs-nums
 unfolding forms_tests pairs_test refuse
-returns-then-idcs-nums c = past_shape (goal.at.returns-then-idcs-nums c).In_default (lowest_stop _ refl (rw (ne_eqb _ _ c.if-idcs-nums.true)))
+returns-then-idcs-nums c = past_shape (goal.at.returns-then-idcs-nums c).In_ok-shape_test (lowest_stop _ refl (rw (ne_eqb _ _ c.if-idcs-nums.true)))
 
-pub rows_test-rows-requires : goal.rows_test-rows-requires
-rows_test-rows-requires c = pointers _ (shaped (goal.at.rows_test-rows-requires c).In_default)
+pub rows_test-requires : goal.rows_test-requires
+rows_test-requires c = pointers _ (shaped (goal.at.rows_test-requires c).In_ok-shape_test)
 
-pub returns-in-Refused-rows : goal.returns-in-Refused-rows
+pub returns-in_err-rows_test : goal.returns-in_err-rows_test
 unfolding forms_tests
-returns-in-Refused-rows c = past_pairs (goal.at.returns-in-Refused-rows c).Else-idcs-nums (lowest_stop _ c.rows_test-rows.ensures c.in-Refused-rows.is)
+returns-in_err-rows_test c = rw (handed c.from_residual-in_err-rows_test.ensures.1) (past_pairs (goal.at.returns-in_err-rows_test c).Else-idcs-nums (lowest_stop _ c.rows_test.ensures c.in_err-rows_test.was))
 
-pub returns-in-Refused-columns : goal.returns-in-Refused-columns
+pub returns-in_err-columns_test : goal.returns-in_err-columns_test
 unfolding forms_tests
-returns-in-Refused-columns c = past_rows (goal.at.returns-in-Refused-columns c).In_default-rows (lowest_stop _ c.columns_test-columns.ensures c.in-Refused-columns.is)
+returns-in_err-columns_test c = rw (handed c.from_residual-in_err-columns_test.ensures.1) (past_rows (goal.at.returns-in_err-columns_test c).In_ok-rows_test (lowest_stop _ c.columns_test.ensures c.in_err-columns_test.was))
 
-pub rows_values_test-residues-requires : goal.rows_values_test-residues-requires
-rows_values_test-residues-requires c = cut _ (shaped (goal.at.rows_values_test-residues-requires c).In_default) (lined (goal.at.rows_values_test-residues-requires c).In_default-rows)
+pub rows_values_test-requires : goal.rows_values_test-requires
+rows_values_test-requires c = cut _ (shaped (goal.at.rows_values_test-requires c).In_ok-shape_test) (lined (goal.at.rows_values_test-requires c).In_ok-rows_test)
 
-pub returns-in-Refused-residues : goal.returns-in-Refused-residues
+pub returns-in_err-rows_values_test : goal.returns-in_err-rows_values_test
 unfolding forms_tests
-returns-in-Refused-residues c = past_columns (goal.at.returns-in-Refused-residues c).In_default-columns (lowest_stop _ c.rows_values_test-residues.ensures c.in-Refused-residues.is)
+returns-in_err-rows_values_test c = rw (handed c.from_residual-in_err-rows_values_test.ensures.1) (past_columns (goal.at.returns-in_err-rows_values_test c).In_ok-columns_test (lowest_stop _ c.rows_values_test.ensures c.in_err-rows_values_test.was))
 
 pub returns : goal.returns
 unfolding forms_tests
-returns c = past_residues (goal.at.returns c).In_default-residues (lowest_last c.values_test.ensures)
+returns c = past_residues (goal.at.returns c).In_ok-rows_values_test (lowest_last c.values_test.ensures)

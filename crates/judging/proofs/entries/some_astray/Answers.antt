@@ -1,5 +1,4 @@
 -- `some_astray` meets its contract. The loop's invariant: no entry before `at` is astray.
--- Assumes nothing.
 use mathlib.Core.Path.{sym, ◌∙◌}
 use native.Mathlib.Omega.{arith}
 use Rattle.lists.proofs.Scans.{clear_none, clear_next, clear_stop, clear_all}

@@ -1,12 +1,11 @@
 -- `count_last` meets its contract. The loop's invariant: the indices before k are counted.
--- Assumes nothing.
 use Rattle.sparse.specs.Matrix.{matrix}
 use Rattle.lasts.specs.Asks.{At}
 use Rattle.lasts.specs.Gathers.{gathered}
 use Rattle.lasts.proofs.Gathering.{tally_none, tally_one, tally_skip, tally_all}
 use Rattle.lasts.proofs.Sources.{taken_many, one_of, found_one, found_none}
 use Rattle.lasts.proofs.gather.count_last.Goals as goal
-use Rattle.lasts.proofs.gather.count_last.Goals.{In-loop-k}
+use Rattle.lasts.proofs.gather.count_last.Goals.{In-loop-k, in-Some, in_default}
 
 -- index k is one of them
 at_index : (c : In-loop-k) → let a = c.args in At a.order (matrix a.nrows a.ncols a.row_ptrs.now a.col_idcs.now a.values.now) a.pivots.now c.loop-k.k
@@ -21,11 +20,13 @@ loop-k-init c = tally_none _
 pub last_at-last-requires : goal.last_at-last-requires
 last_at-last-requires c = at_index (goal.at.last_at-last-requires c).In-loop-k
 
-pub loop-k-preserved-in_default : goal.loop-k-preserved-in_default
-loop-k-preserved-in_default c = tally_skip _ _ _ c.loop-k.invariant (one_of (at_index (goal.at.loop-k-preserved-in_default c).In-loop-k)) (found_none (at_index (goal.at.loop-k-preserved-in_default c).In-loop-k) c.last_at-last.ensures c.in_default.is)
-
 pub loop-k-preserved : goal.loop-k-preserved
-loop-k-preserved c = tally_one _ _ _ c.loop-k.invariant (one_of (at_index (goal.at.loop-k-preserved c).In-loop-k)) (found_one (at_index (goal.at.loop-k-preserved c).In-loop-k) c.last_at-last.ensures c.in-Value.is)
+loop-k-preserved c =
+    let here = at_index (goal.at.loop-k-preserved c).In-loop-k in
+    elim c.match-last.branch [
+      | in-Some w ↦ rw w.found-is (tally_one _ _ _ c.loop-k.invariant (one_of here) (found_one here c.last_at-last.ensures w.in-Some.is))
+      | in_default w ↦ rw w.found-is (tally_skip _ _ _ c.loop-k.invariant (one_of here) (found_none here c.last_at-last.ensures w.in_default.is))
+    ]
 
 pub returns : goal.returns
 unfolding gathered

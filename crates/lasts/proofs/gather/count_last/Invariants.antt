@@ -1,6 +1,4 @@
 -- `count_last` meets its contract. The loop's invariant: the indices before k are counted.
--- Assumes nothing.
-use Prim.Native.Nat.{◌-◌}
 use Rattle.sparse.specs.Matrix.{matrix}
 use Rattle.lasts.specs.Gathers.{taken}
 use Rattle.lasts.proofs.Gathering.{Tally}
@@ -8,6 +6,3 @@ use Rattle.lasts.proofs.gather.count_last.Given as goal
 
 abbrev pub invariant-loop-k : goal.invariant-loop-k
 invariant-loop-k l = Tally (taken l.order (matrix l.nrows l.ncols l.row_ptrs l.col_idcs l.values) l.pivots) l.found l.k
-
-abbrev pub decreases-loop-k : goal.decreases-loop-k
-decreases-loop-k l = l.size - l.k

@@ -1,5 +1,4 @@
 -- `write_last` meets its contract. The loop's invariant: what goes to the indices before k is written.
--- Assumes nothing.
 use Prim.Native.Nat.{◌<◌}
 use native.Mathlib.Omega.{arith}
 use lib.ListN.{length}
@@ -10,7 +9,7 @@ use Rattle.lasts.specs.Gathers.{taken, gathered}
 use Rattle.lasts.proofs.Gathering.{Fits, tally_room, gathering_none, gathering_one, gathering_skip, gathering_all, idcs_keep, vals_keep}
 use Rattle.lasts.proofs.Sources.{taken_many, one_of, found_one, found_none, room_for}
 use Rattle.lasts.proofs.gather.write_last.Goals as goal
-use Rattle.lasts.proofs.gather.write_last.Goals.{After-indices-size, In-Value, In-loop-k}
+use Rattle.lasts.proofs.gather.write_last.Goals.{After-indices-size, In-Some, In-loop-k, in-Some, in_default}
 
 -- index k is one of them
 at_index : (c : In-loop-k) → let a = c.args in At a.order (matrix a.nrows a.ncols a.row_ptrs.now a.col_idcs.now a.values.now) a.pivots.now c.loop-k.k
@@ -21,11 +20,11 @@ fits : (c : After-indices-size) → let a = c.args in Fits (taken a.order (matri
 fits c = room_for c.requires
 
 -- there is a place for the entry
-place : (c : In-Value) → let l = c.loop-k in (l.at < length l.out_idcs) × (l.at < length l.out_vals)
+place : (c : In-Some) → let l = c.loop-k in (l.at < length l.out_idcs) × (l.at < length l.out_vals)
 place c = let inv = c.loop-k.invariant in
     let f = (room_for c.requires) in
     let i = (let it : let a = c.args in At a.order (matrix a.nrows a.ncols a.row_ptrs.now a.col_idcs.now a.values.now) a.pivots.now c.loop-k.k = record { from = c.requires.from; within = rw (← c.indices-size.ensures) c.loop-k-test.true } in it) in
-    let room = tally_room _ _ _ inv.tally (one_of i) (found_one i c.last_at-last.ensures c.in-Value.is) in
+    let room = tally_room _ _ _ inv.tally (one_of i) (found_one i c.last_at-last.ensures c.in-Some.is) in
     (omega (arith, room, f.indices, idcs_keep f inv), omega (arith, room, f.numbers, vals_keep f inv))
 
 pub indices-size-requires : goal.indices-size-requires
@@ -37,26 +36,20 @@ loop-k-init c = gathering_none _ _
 pub last_at-last-requires : goal.last_at-last-requires
 last_at-last-requires c = at_index (goal.at.last_at-last-requires c).In-loop-k
 
-pub loop-k-preserved-in_default : goal.loop-k-preserved-in_default
-loop-k-preserved-in_default c = gathering_skip (fits (goal.at.loop-k-preserved-in_default c).After-indices-size) c.loop-k.invariant (one_of (at_index (goal.at.loop-k-preserved-in_default c).In-loop-k)) (found_none (at_index (goal.at.loop-k-preserved-in_default c).In-loop-k) c.last_at-last.ensures c.in_default.is)
-
-pub offset_bounds-out_idcs-at : goal.offset_bounds-out_idcs-at
-offset_bounds-out_idcs-at c = omega (arith, (place (goal.at.offset_bounds-out_idcs-at c).In-Value).0)
-
 pub bounds-out_idcs-at : goal.bounds-out_idcs-at
-bounds-out_idcs-at c = (place (goal.at.bounds-out_idcs-at c).In-Value).0
-
-pub offset_bounds-out_vals-at : goal.offset_bounds-out_vals-at
-offset_bounds-out_vals-at c = omega (arith, (place (goal.at.offset_bounds-out_vals-at c).In-Value).1)
+bounds-out_idcs-at c = (place (goal.at.bounds-out_idcs-at c).In-Some).0
 
 pub bounds-out_vals-at : goal.bounds-out_vals-at
-bounds-out_vals-at c = (place (goal.at.bounds-out_vals-at c).In-Value).1
-
-pub overflow_add-at : goal.overflow_add-at
-overflow_add-at c = omega (arith, (place (goal.at.overflow_add-at c).In-Value).0)
+bounds-out_vals-at c = (place (goal.at.bounds-out_vals-at c).In-Some).1
 
 pub loop-k-preserved : goal.loop-k-preserved
-loop-k-preserved c = gathering_one (fits (goal.at.loop-k-preserved c).After-indices-size) c.loop-k.invariant (one_of (at_index (goal.at.loop-k-preserved c).In-loop-k)) (found_one (at_index (goal.at.loop-k-preserved c).In-loop-k) c.last_at-last.ensures c.in-Value.is)
+loop-k-preserved c =
+    let here = at_index (goal.at.loop-k-preserved c).In-loop-k in
+    let room = fits (goal.at.loop-k-preserved c).After-indices-size in
+    elim c.match-last.branch [
+      | in-Some w ↦ rw (w.at-is, w.out_idcs-is, w.out_vals-is) (gathering_one room c.loop-k.invariant (one_of here) (found_one here c.last_at-last.ensures w.in-Some.is))
+      | in_default w ↦ rw (w.at-is, w.out_idcs-is, w.out_vals-is) (gathering_skip room c.loop-k.invariant (one_of here) (found_none here c.last_at-last.ensures w.in_default.is))
+    ]
 
 pub shape_of-out_idcs : goal.shape_of-out_idcs
 shape_of-out_idcs c = idcs_keep (fits (goal.at.shape_of-out_idcs c).After-indices-size) c.loop-k.invariant

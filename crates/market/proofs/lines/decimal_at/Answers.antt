@@ -1,8 +1,6 @@
 -- `lines::decimal_at` meets its contract. The loop's invariant: so many digits, which say `value`, are read.
--- The measure is what is left of the text. Assumes nothing.
-use native.Mathlib.Omega.{arith}
 use Rattle.market.specs.Places.{number_read}
-use Rattle.market.proofs.Numbers.{digits_none, digits_small, digits_end, digits_empty, digits_stop, digits_low, digits_high, digits_full, digits_more}
+use Rattle.market.proofs.Numbers.{digits_none, digits_end, digits_empty, digits_stop, digits_low, digits_high, digits_full, digits_more}
 use Rattle.market.proofs.lines.decimal_at.Goals as goal
 
 pub loop-i-init : goal.loop-i-init
@@ -27,12 +25,6 @@ returns-then-byte-gt57 c = digits_high c.loop-i.invariant c.loop-i-test.true c.i
 pub returns-then-i-at-ge-MOST_DIGITS : goal.returns-then-i-at-ge-MOST_DIGITS
 unfolding number_read
 returns-then-i-at-ge-MOST_DIGITS c = digits_full c.loop-i.invariant c.loop-i-test.true c.if-byte-stop.false c.if-byte-lt48.false c.if-byte-gt57.false c.if-i-at-ge-MOST_DIGITS.true
-
-pub overflow_mul-value : goal.overflow_mul-value
-overflow_mul-value c = omega (arith, digits_small c.loop-i.invariant)
-
-pub overflow_add-value : goal.overflow_add-value
-overflow_add-value c = omega (arith, digits_small c.loop-i.invariant)
 
 pub loop-i-preserved : goal.loop-i-preserved
 loop-i-preserved c = digits_more c.loop-i.invariant c.loop-i-test.true c.if-byte-stop.false c.if-byte-lt48.false c.if-byte-gt57.false c.if-i-at-ge-MOST_DIGITS.false

@@ -1,12 +1,6 @@
 -- `lines::decimal_at` meets its contract. The loop's invariant: so many digits, which say `value`, are read.
--- The measure is what is left of the text. Assumes nothing.
-use Prim.Native.Nat.{◌-◌}
-use lib.ListN.{length}
 use Rattle.market.proofs.Numbers.{Digiting}
 use Rattle.market.proofs.lines.decimal_at.Given as goal
 
 abbrev pub invariant-loop-i : goal.invariant-loop-i
 invariant-loop-i l = Digiting l.text l.stop l.at l.value l.i
-
-abbrev pub decreases-loop-i : goal.decreases-loop-i
-decreases-loop-i l = length l.text - l.i

@@ -1,29 +1,19 @@
--- `names_other` meets its contract. The loop's invariant: none of the first k names anything but a row.
+-- `names_other` meets its contract: one of the kept passes where one is kept and passes.
 -- Assumes nothing.
 use mathlib.Core.Path.{sym, ◌∙◌}
-use mathlib.Core.Bool.{not}
-use borrow.Author.Tests.{eq-eqb, ne_eqb, le-leb, lt-leb}
+use mathlib.Core.Bool.{not, ◌&&◌}
+use borrow.Author.Rules.{rules}
+use borrow.Author.Tests.{tests}
 use lib.Dec.{leb, eqb}
+use Rattle.std.proofs.lemmas.Iterator.{YieldsList-from_slice}
+use Rattle.std.proofs.lemmas.Iterator.Search.{any_from_yields_List}
 use Rattle.sparse.specs.Pivots.{mark, named}
-use Rattle.lists.proofs.Scans.{clear_none, clear_next, clear_stop, clear_all, any_kept}
+use Rattle.lists.proofs.Scans.{any_kept}
+use Rattle.lists.proofs.Chains.{any_is}
 use Rattle.pivots.proofs.inside.names_other.Goals as goal
 
-pub loop-k-init : goal.loop-k-init
-loop-k-init c = clear_none _ _
-
-pub loop-k-preserved-then-row : goal.loop-k-preserved-then-row
-unfolding mark
-loop-k-preserved-then-row c = clear_next c.loop-k.invariant c.loop-k-test.true (rw (eq-eqb _ _ c.if-row.true))
-
-pub returns-then-row-nrows : goal.returns-then-row-nrows
-unfolding named mark
-returns-then-row-nrows c = clear_stop c.loop-k.invariant c.loop-k-test.true (rw (ne_eqb _ _ c.if-row.false, le-leb _ _ c.if-row-nrows.true))
-    ∙ sym (any_kept (λ r. not (eqb r mark)) (leb c.args.nrows) 0 c.args.pivots.now)
-
-pub loop-k-preserved : goal.loop-k-preserved
-unfolding mark
-loop-k-preserved c = clear_next c.loop-k.invariant c.loop-k-test.true (rw (ne_eqb _ _ c.if-row.false, lt-leb _ _ c.if-row-nrows.false))
-
 pub returns : goal.returns
-unfolding named
-returns c = clear_all c.loop-k.invariant c.loop-k-test.false ∙ sym (any_kept (λ r. not (eqb r mark)) (leb c.args.nrows) 0 c.args.pivots.now)
+unfolding named mark
+returns c =
+    any_from_yields_List (λ r. not (eqb r mark) && leb c.args.nrows r) _ _ _ c.any.ensures.ran (YieldsList-from_slice c.args.pivots.now cc) (λ x b q k. search (rules, tests))
+    ∙ sym (any_kept (λ r. not (eqb r mark)) (leb c.args.nrows) 0 c.args.pivots.now ∙ any_is (λ r. not (eqb r mark) && leb c.args.nrows r) 0 c.args.pivots.now)

@@ -1,34 +1,31 @@
 -- `is_one` meets its contract: each `return` goes by the tests before it.
 -- Assumes nothing.
+use Rattle.sparse.proofs.Firsts.{handed}
+use Rattle.std.specs.Prelude.{Ok}
 use mathlib.Core.Path.{◌≡◌, sym, ◌∙◌}
 use borrow.Author.Tests.{eq-eqb, ne_eqb}
 use Rattle.sparse.specs.Matrix.{matrix}
 use Rattle.sparse.specs.Tests.{well_formed}
-use Rattle.sparse.specs.declared.Tested.TheVariants.{Good}
 use Rattle.readers.specs.Readers.{is_identity, judged, is_one}
 use Rattle.readers.proofs.Identities.{formed_readable}
 use Rattle.readers.proofs.identity.is_one.Goals as goal
-use Rattle.readers.proofs.identity.is_one.Goals.{In_default}
+use Rattle.readers.proofs.identity.is_one.Goals.{In_ok-well_formed}
 
 -- past the tests: they found nothing
-formed : (c : In_default) → let a = c.args in well_formed 65536 a.p (matrix a.nrows a.ncols a.row_ptrs.now a.col_idcs.now a.values.now) ≡ Good
-formed c = sym c.well_formed-found.ensures ∙ c.in_default.is
+formed : (c : In_ok-well_formed) → let a = c.args in well_formed 65536 a.p (matrix a.nrows a.ncols a.row_ptrs.now a.col_idcs.now a.values.now) ≡ Ok tt
+formed c = sym c.well_formed-2.ensures ∙ c.in_ok-well_formed.was
 
-pub returns-in-Refused : goal.returns-in-Refused
+pub returns-in_err-well_formed : goal.returns-in_err-well_formed
 unfolding is_one judged
-returns-in-Refused c = rw (← c.well_formed-found.ensures, c.in-Refused.is)
+returns-in_err-well_formed c = rw (handed c.from_residual.ensures.1) (rw (← c.well_formed-2.ensures, c.in_err-well_formed.was))
 
 pub returns-then-nrows-ncols : goal.returns-then-nrows-ncols
 unfolding is_one judged is_identity
-returns-then-nrows-ncols c = rw (formed (goal.at.returns-then-nrows-ncols c).In_default, ne_eqb _ _ c.if-nrows-ncols.true)
+returns-then-nrows-ncols c = rw (formed (goal.at.returns-then-nrows-ncols c).In_ok-well_formed, ne_eqb _ _ c.if-nrows-ncols.true)
 
 pub some_row_off-requires : goal.some_row_off-requires
-some_row_off-requires c = record { whole = formed_readable 65536 _ _ (formed (goal.at.some_row_off-requires c).In_default); same = c.if-nrows-ncols.false }
-
-pub returns-then-some_row_off : goal.returns-then-some_row_off
-unfolding is_one judged is_identity
-returns-then-some_row_off c = rw (formed (goal.at.returns-then-some_row_off c).In_default, eq-eqb _ _ c.if-nrows-ncols.false, ← c.some_row_off.ensures, c.if-some_row_off.true)
+some_row_off-requires c = record { whole = formed_readable 65536 _ _ (formed (goal.at.some_row_off-requires c).In_ok-well_formed); same = c.if-nrows-ncols.false }
 
 pub returns : goal.returns
 unfolding is_one judged is_identity
-returns c = rw (formed (goal.at.returns c).In_default, eq-eqb _ _ c.if-nrows-ncols.false, ← c.some_row_off.ensures, c.if-some_row_off.false)
+returns c = rw (formed (goal.at.returns c).In_ok-well_formed, eq-eqb _ _ c.if-nrows-ncols.false, ← c.some_row_off.ensures)

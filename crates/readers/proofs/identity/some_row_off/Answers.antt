@@ -1,5 +1,4 @@
 -- `some_row_off` meets its contract. The loop's invariant: no row before `row` differs from the identity's.
--- Assumes nothing.
 use mathlib.Core.Path.{sym, ◌∙◌}
 use native.Mathlib.Omega.{arith}
 use Rattle.sparse.specs.Matrix.{part, row, value_at}
@@ -11,23 +10,8 @@ use Rattle.readers.proofs.identity.some_row_off.Goals as goal
 pub loop-row-init : goal.loop-row-init
 loop-row-init c = clear_none _ _
 
-pub overflow_cast-start : goal.overflow_cast-start
-overflow_cast-start c = omega (arith, (square_laid _ c.requires).shape.many)
-
-pub offset_bounds-row_ptrs-row : goal.offset_bounds-row_ptrs-row
-offset_bounds-row_ptrs-row c = omega (arith, (square_laid _ c.requires).shape.many)
-
 pub bounds-row_ptrs-row : goal.bounds-row_ptrs-row
 bounds-row_ptrs-row c = omega (arith, (square_laid _ c.requires).shape.many)
-
-pub overflow_cast-stop : goal.overflow_cast-stop
-overflow_cast-stop c = omega (arith, (square_laid _ c.requires).shape.many)
-
-pub overflow_add-stop : goal.overflow_add-stop
-overflow_add-stop c = omega (arith, (square_laid _ c.requires).shape.many)
-
-pub offset_bounds-row_ptrs-row-in-loop-row : goal.offset_bounds-row_ptrs-row-in-loop-row
-offset_bounds-row_ptrs-row-in-loop-row c = omega (arith, (square_laid _ c.requires).shape.many)
 
 pub bounds-row_ptrs-row-in-loop-row : goal.bounds-row_ptrs-row-in-loop-row
 bounds-row_ptrs-row-in-loop-row c = omega (arith, (square_laid _ c.requires).shape.many)

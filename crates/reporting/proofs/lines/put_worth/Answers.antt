@@ -3,10 +3,10 @@
 use Rattle.reporting.specs.Text.{worth_text}
 use Rattle.reporting.proofs.lines.put_worth.Goals as goal
 
-pub returns-in-Number : goal.returns-in-Number
+pub returns-in-Some : goal.returns-in-Some
 unfolding worth_text
-returns-in-Number c = rw c.in-Number.is c.put_decimal.ensures
+returns-in-Some c = rw c.in-Some.is c.put_decimal.ensures
 
-pub returns-in-Unasked : goal.returns-in-Unasked
+pub returns-in-None : goal.returns-in-None
 unfolding worth_text
-returns-in-Unasked c = rw c.in-Unasked.is c.put_bytes.ensures
+returns-in-None c = rw c.in-None.is c.put_bytes.ensures

@@ -42,10 +42,10 @@ take_row-added-requires c = next_offers c.requires
 pub overflow_add-run : goal.overflow_add-run
 overflow_add-run c = search (rules, next_place c.requires)
 
-pub returns-in-Refused : goal.returns-in-Refused
+pub returns-in-Err : goal.returns-in-Err
 unfolding row part
-returns-in-Refused c = next_stopped c.requires _ c.take_row-added.ensures _ c.in-Refused.is
+returns-in-Err c = next_stopped c.requires _ c.take_row-added.ensures _ c.in-Err.is
 
-pub returns-in-Answered : goal.returns-in-Answered
+pub returns-in-Ok : goal.returns-in-Ok
 unfolding row part
-returns-in-Answered c = next_taken c.requires _ c.take_row-added.ensures _ c.in-Answered.is c.ended.ensures c.tell.ensures
+returns-in-Ok c = next_taken c.requires _ c.take_row-added.ensures _ c.in-Ok.is c.ended.ensures c.tell.ensures

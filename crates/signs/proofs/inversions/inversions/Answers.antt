@@ -10,7 +10,7 @@ use Rattle.signs.proofs.inversions.inversions.Goals as goal
 
 pub loop-place-init : goal.loop-place-init
 unfolding Σ
-loop-place-init c = (omega arith, omega arith, refl)
+loop-place-init c = (omega arith, refl)
 
 pub inverted-sum-requires : goal.inverted-sum-requires
 inverted-sum-requires c = record { few = c.requires; within = c.loop-place-test.true }
@@ -18,12 +18,9 @@ inverted-sum-requires c = record { few = c.requires; within = c.loop-place-test.
 pub overflow_add-sum : goal.overflow_add-sum
 overflow_add-sum c = let few = inverted_few (c.args.table.now) (c.loop-place.place) in omega (arith, few, c.inverted-sum.ensures, c.requires)
 
-pub overflow_add-place : goal.overflow_add-place
-overflow_add-place c = omega (arith, c.requires)
-
 pub loop-place-preserved : goal.loop-place-preserved
-loop-place-preserved c = (omega arith, let few = inverted_few (c.args.table.now) (c.loop-place.place) in omega (arith, few, c.inverted-sum.ensures, c.requires), ap₂ (λ (x y : ℕ). x + y) c.loop-place.invariant.2 c.inverted-sum.ensures ∙ sym (sum_more _ _))
+loop-place-preserved c = (let few = inverted_few (c.args.table.now) (c.loop-place.place) in omega (arith, few, c.inverted-sum.ensures, c.requires), ap₂ (λ (x y : ℕ). x + y) c.loop-place.invariant.1 c.inverted-sum.ensures ∙ sym (sum_more _ _))
 
 pub returns : goal.returns
 unfolding inversions
-returns c = c.loop-place.invariant.2 ∙ ap (λ (k : ℕ). Σ k (inverted (c.args.table.now))) (omega arith)
+returns c = c.loop-place.invariant.1 ∙ ap (λ (k : ℕ). Σ k (inverted (c.args.table.now))) (omega arith)

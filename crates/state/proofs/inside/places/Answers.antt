@@ -1,13 +1,21 @@
--- `places` meets its contract: each `return` goes by the test before it.
+-- `places` meets its contract: std's minimum, as a test.
 -- Assumes nothing.
-use borrow.Author.Tests.{lt-ltb, le-ltb}
+use mathlib.Core.Path.{◌≡◌, refl, ◌∙◌}
+use mathlib.Core.Bool.{Bool, true, false, cond}
+use Prim.Native.Nat.{ℕ, min}
+use lib.Dec.{ltb}
+use native.Mathlib.Omega.{arith}
+use borrow.Author.Tests.{ltb-true, ltb-false}
 use Rattle.state.specs.Memory.{at_most}
 use Rattle.state.proofs.inside.places.Goals as goal
 
-pub returns-then-len-gt-MAX_PLACES : goal.returns-then-len-gt-MAX_PLACES
+least : (n : ℕ) → min n 1048576 ≡ at_most n
 unfolding at_most
-returns-then-len-gt-MAX_PLACES c = rw (lt-ltb _ _ c.if-len-gt-MAX_PLACES.true)
+least n = go (ltb 1048576 n) refl
+  where
+    go : (b : Bool) → ltb 1048576 n ≡ b → min n 1048576 ≡ cond b 1048576 n
+    go true e = omega (arith, ltb-true 1048576 n e)
+    go false e = omega (arith, ltb-false 1048576 n e)
 
 pub returns : goal.returns
-unfolding at_most
-returns c = rw (le-ltb _ _ c.if-len-gt-MAX_PLACES.false)
+returns c = c.min.ensures ∙ least c.args.len

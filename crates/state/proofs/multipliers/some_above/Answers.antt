@@ -1,21 +1,16 @@
--- `some_above` meets its contract. The loop's invariant: the first `k` columns are below the rank.
+-- `some_above` meets its contract: std's `any` over the first columns.
 -- Assumes nothing.
-use native.Mathlib.Omega.{arith}
-use borrow.Author.Tests.{le-leb, lt-leb}
-use Rattle.lists.proofs.Scans.{clear_none, clear_next, clear_stop, clear_all}
+use mathlib.Core.Path.{sym, ◌∙◌}
+use borrow.Author.Rules.{rules}
+use borrow.Author.Tests.{tests}
+use lib.Dec.{leb}
+use lib.ListN.{take}
+use Rattle.std.proofs.lemmas.Iterator.{YieldsList-from_slice}
+use Rattle.std.proofs.lemmas.Iterator.Search.{any_from_yields_List}
+use Rattle.lists.proofs.Chains.{any_front}
 use Rattle.state.proofs.multipliers.some_above.Goals as goal
 
-pub loop-k-init : goal.loop-k-init
-loop-k-init c = clear_none _ _
-
-pub overflow_cast-cols : goal.overflow_cast-cols
-overflow_cast-cols c = omega (arith, c.type_inv.cols c.loop-k.k)
-
-pub returns-then-cols-k : goal.returns-then-cols-k
-returns-then-cols-k c = clear_stop c.loop-k.invariant c.loop-k-test.true (le-leb _ _ c.if-cols-k.true)
-
-pub loop-k-preserved : goal.loop-k-preserved
-loop-k-preserved c = clear_next c.loop-k.invariant c.loop-k-test.true (lt-leb _ _ c.if-cols-k.false)
-
 pub returns : goal.returns
-returns c = clear_all c.loop-k.invariant c.loop-k-test.false
+returns c =
+    any_from_yields_List (leb c.args.rank) _ _ _ c.any.ensures.ran (YieldsList-from_slice (take c.args.fill c.args.cols.now) cc) (λ x b q k. search (rules, tests))
+    ∙ sym (any_front (leb c.args.rank) 0 c.args.cols.now c.args.fill c.requires)

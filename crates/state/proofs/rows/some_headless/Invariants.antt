@@ -1,6 +1,5 @@
 -- `some_headless` meets its contract. The loop's invariant: no row before `row` lacks its head.
 -- Assumes nothing.
-use Prim.Native.Nat.{◌-◌}
 use Rattle.lists.proofs.Scans.{Clear}
 use Rattle.sparse.specs.Matrix.{matrix}
 use Rattle.state.specs.State.{headless}
@@ -8,6 +7,3 @@ use Rattle.state.proofs.rows.some_headless.Given as goal
 
 abbrev pub invariant-loop-row : goal.invariant-loop-row
 invariant-loop-row l = Clear l.nrows (headless (matrix l.nrows l.ncols l.ptrs l.cols l.vals) l.pivots) l.row
-
-abbrev pub decreases-loop-row : goal.decreases-loop-row
-decreases-loop-row l = l.nrows - l.row

@@ -1,21 +1,20 @@
--- `mark_columns` meets its contract. The loop's invariant: the first columns have the mark.
+-- `mark_columns` meets its contract: the front is filled with the mark.
 -- Assumes nothing.
-use mathlib.Core.Path.{◌≡◌, refl}
-use native.Mathlib.Omega.{arith}
-use lib.ListN.{length-set}
-use Rattle.lists.proofs.Tables.{table_none, table_more}
+use mathlib.Core.Path.{◌≡◌, ap, ◌∙◌}
+use Prim.Native.Nat.{ℕ}
+use lib.ListN.{replicate}
+use lib.Seq.{length-take-le}
+use Rattle.lists.specs.Onto.{◌onto◌}
+use Rattle.lists.specs.Table.{table}
+use Rattle.lists.proofs.Tables.{length-table}
+use Rattle.lists.proofs.Chains.{same_table}
 use Rattle.sparse.specs.Pivots.{mark}
 use Rattle.state.proofs.start.mark_columns.Goals as goal
 
-pub loop-col-init : goal.loop-col-init
-loop-col-init c = (omega arith, refl, table_none _ _)
-
-pub loop-col-preserved : goal.loop-col-preserved
-unfolding mark
-loop-col-preserved c = (omega arith, simp length-set c.loop-col.invariant.1, rw c.loop-col.invariant.2 (table_more _ _ _ (omega arith)))
-
-pub shape_of-pivots : goal.shape_of-pivots
-shape_of-pivots c = c.loop-col.invariant.1
-
 pub returns : goal.returns
-returns c = let e : c.loop-col.col ≡ c.args.ncols = omega arith in rw (← e) c.loop-col.invariant.2
+unfolding mark ◌onto◌
+returns c =
+    let n = c.args.ncols in
+    let old = c.args.pivots.now in
+    let filled : c.fill.new.self ≡ table n (λ i. mark) = c.fill.ensures.after (λ y e. e) ∙ ap (λ (k : ℕ). replicate k mark) (length-take-le n old c.requires) ∙ same_table n mark in
+    rw (filled, length-table n (λ i. mark))

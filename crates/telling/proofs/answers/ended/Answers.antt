@@ -13,5 +13,5 @@ pub returns-else-check : goal.returns-else-check
 unfolding ended is_none
 returns-else-check c = rw (c.in-None.is, c.if-check.false)
 
-pub returns-in-Accepted : goal.returns-in-Accepted
-returns-in-Accepted c = never_ends _ c.in-Accepted.is _
+pub returns-in-Some : goal.returns-in-Some
+returns-in-Some c = never_ends _ c.in-Some.is _

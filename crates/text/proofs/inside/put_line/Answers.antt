@@ -1,5 +1,4 @@
 -- `inside::put_line` meets its contract. The loop's invariant: the pieces of the entries before k are written.
--- The measure is how many entries are left. Assumes nothing.
 use native.Mathlib.Omega.{arith}
 use Rattle.text.proofs.Pieces.{line_none, line_next, line_far, line_all}
 use Rattle.text.proofs.Puts.{wrote_length}

@@ -1,11 +1,6 @@
 -- `inside::put_line` meets its contract. The loop's invariant: the pieces of the entries before k are written.
--- The measure is how many entries are left. Assumes nothing.
-use Prim.Native.Nat.{◌-◌}
 use Rattle.text.proofs.Pieces.{OnLine}
 use Rattle.text.proofs.inside.put_line.Given as goal
 
 abbrev pub invariant-loop-k : goal.invariant-loop-k
 invariant-loop-k l = OnLine l.line l.start l.stop l.idcs l.values l.at l.initial.text l.k l.next l.text
-
-abbrev pub decreases-loop-k : goal.decreases-loop-k
-decreases-loop-k l = l.stop - l.k

@@ -1,5 +1,4 @@
 -- `inside::put_rows` meets its contract. The loop's invariant: the pieces of the rows before row i are written.
--- The measure is how many rows are left. Assumes nothing.
 use Rattle.text.proofs.Pieces.{rows_none, rows_next, row_ask, rows_all}
 use Rattle.text.proofs.Puts.{wrote_length}
 use Rattle.text.proofs.inside.put_rows.Goals as goal

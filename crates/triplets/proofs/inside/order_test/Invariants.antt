@@ -1,6 +1,5 @@
 -- `order_test` meets its contract. The loop's invariant: no triplet before k is refused.
 -- Assumes nothing.
-use Prim.Native.Nat.{◌-◌}
 use lib.ListN.{length}
 use Rattle.triplets.specs.Triplets.{triplets, step_test}
 use Rattle.sparse.proofs.Firsts.{Past}
@@ -8,6 +7,3 @@ use Rattle.triplets.proofs.inside.order_test.Given as goal
 
 abbrev pub invariant-loop-k : goal.invariant-loop-k
 invariant-loop-k l = Past (length l.vals) (step_test (triplets l.rows l.cols l.vals)) l.k
-
-abbrev pub decreases-loop-k : goal.decreases-loop-k
-decreases-loop-k l = length l.vals - l.k

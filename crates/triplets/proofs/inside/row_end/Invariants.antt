@@ -1,11 +1,8 @@
 -- `row_end` meets its contract. The loop's invariant: each row before `stop` is at most `row`.
 -- Assumes nothing.
-use Prim.Native.Nat.{ℕ, ◌+◌, ◌-◌, ◌≤◌, ◌<◌}
-use lib.ListN.{length, get_or}
+use Prim.Native.Nat.{ℕ, ◌+◌, ◌<◌}
+use lib.ListN.{get_or}
 use Rattle.triplets.proofs.inside.row_end.Given as goal
 
 abbrev pub invariant-loop-stop : goal.invariant-loop-stop
-invariant-loop-stop l = (l.stop ≤ length l.rows) × ((k : ℕ) → k < l.stop → get_or l.rows k 0 < l.row + 1)
-
-abbrev pub decreases-loop-stop : goal.decreases-loop-stop
-decreases-loop-stop l = length l.rows - l.stop
+invariant-loop-stop l = (k : ℕ) → k < l.stop → get_or l.rows k 0 < l.row + 1

@@ -37,7 +37,7 @@ loop-col-smaller-then-row c = let above : c.loop-col.col + 1 ≤ c.next-col-then
 
 pub loop-col-preserved-then-row : goal.loop-col-preserved-then-row
 unfolding pivot_at upper mark
-loop-col-preserved-then-row c = (up_free _ _ _ _ _ c.loop-col.invariant.0 (omega (arith, c.loop-col-test.true, c.loop-col.invariant.0.left.long)) c.if-not-on.false c.if-row.true c.lesser-head.ensures c.next-col-then-row.ensures, front_next c.loop-col.invariant.1 c.next-col-then-row.ensures)
+loop-col-preserved-then-row c = (up_free _ _ _ _ _ c.loop-col.invariant.0 (omega (arith, c.loop-col-test.true, c.loop-col.invariant.0.left.long)) c.if-not-on.false c.if-row.true c.min-head.ensures c.next-col-then-row.ensures, front_next c.loop-col.invariant.1 c.next-col-then-row.ensures)
 
 pub overflow_cast-row : goal.overflow_cast-row
 overflow_cast-row c = omega (arith, c.type_inv.pivots c.loop-col.col)

@@ -1,10 +1,10 @@
 -- `walk` meets its contract. The loop's invariant: below `col` all is done, and something stands there.
 -- Assumes nothing.
+use Rattle.std.specs.Prelude.{None}
 use mathlib.Core.List.{[]}
 use Prim.Native.Nat.{◌-◌}
 use lib.ListN.{length, get_or}
 use Rattle.walk.specs.Step.{upper, way}
-use Rattle.walk.specs.declared.Answer.TheVariants.{None}
 use Rattle.walk.proofs.Walking.{Up, Front}
 use Rattle.walk.proofs.climb.walk.Given as goal
 
