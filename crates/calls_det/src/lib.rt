@@ -1,17 +1,15 @@
 // The determinant with the words of a case, and what it answers.
 #![tactic(auto)]
 
-use answers::{Out, put_count, put_list, put_refused};
-use cases::table::{list, number, pointers};
-use cases_rows::memory::{put_counts, put_memory};
-use determinant::{Determined, Valued};
-use sparse::inside::number_of;
-use telling::{Run, Stop};
+use answers::Out;
+use cases::table::Case;
+use cases_rows::memory::put_memory;
+use cases_rows::told::put_run;
+use determinant::Determined;
 
 // Calls, and puts the answer and the memory.
 pub fn determined(
-    nums: &[u32],
-    wides: &[usize],
+    case: &Case<()>,
     dense: &mut [u32],
     u_cols: &mut [u32],
     u_vals: &mut [u32],
@@ -21,56 +19,28 @@ pub fn determined(
     l_ptrs: &mut [usize],
     pivots: &mut [u32],
     out: &mut Out,
-    fill: usize,
-) -> usize {
+) {
+    let m = case.matrix();
     let determined = determinant::det(
-        number(nums, wides, 0),
-        number(nums, wides, 1),
-        number(nums, wides, 2),
-        pointers(wides, 3),
-        list(nums, wides, 4),
-        list(nums, wides, 5),
-        dense,
-        u_cols,
-        u_vals,
-        u_ptrs,
-        l_cols,
-        l_vals,
-        l_ptrs,
-        pivots,
+        m.p, m.nrows, m.ncols, m.row_ptrs, m.cols, m.vals, dense, u_cols, u_vals, u_ptrs, l_cols,
+        l_vals, l_ptrs, pivots,
     );
-    let fill = put_determined(out, fill, determined);
-    let fill = put_list(out, fill, dense);
-    put_memory(
-        out, fill, u_cols, u_vals, u_ptrs, l_cols, l_vals, l_ptrs, pivots,
-    )
+    put_determined(out, determined);
+    out.put_list(dense);
+    put_memory(out, u_cols, u_vals, u_ptrs, l_cols, l_vals, l_ptrs, pivots);
 }
 
-fn put_determined(out: &mut Out, fill: usize, determined: Determined) -> usize {
+// The value, or the number of the refusal at the row where it stopped; and the rows that were taken.
+fn put_determined(out: &mut Out, determined: Determined) {
     match determined {
-        Determined::Value(valued) => put_valued(out, fill, valued),
-        Determined::Stopped(stop) => put_stopped(out, fill, stop),
-        Determined::Refused(why) => put_refused(out, fill, why),
+        Determined::Value(valued) => {
+            out.put_count(b"value", valued.value);
+            put_run(out, b"", valued.run);
+        }
+        Determined::Stopped(stop) => {
+            out.put_count(b"stopped", u32::from(stop.why));
+            put_run(out, b"", stop.run);
+        }
+        Determined::Refused(why) => out.put_refused(why),
     }
-}
-
-fn put_valued(out: &mut Out, fill: usize, valued: Valued) -> usize {
-    let run = valued.run;
-    let fill = put_count(out, fill, b"value", valued.value as u64);
-    put_run(out, fill, run)
-}
-
-// The number of the refusal at the row where it stopped, and the rows before.
-fn put_stopped(out: &mut Out, fill: usize, stop: Stop) -> usize {
-    let why = stop.why;
-    let run = stop.run;
-    let fill = put_count(out, fill, b"stopped", number_of(why) as u64);
-    put_run(out, fill, run)
-}
-
-// How many rows were taken, and the counts.
-fn put_run(out: &mut Out, fill: usize, run: Run) -> usize {
-    let counts = run.counts;
-    let fill = put_count(out, fill, b"", run.taken as u64);
-    put_counts(out, fill, counts)
 }

@@ -1,17 +1,23 @@
-// The calls that take the rows of a matrix, by their row of the table: the two walks of each stand side
-// by side, the first walk first.
+// The calls that take the rows of a matrix.
 #![tactic(auto)]
 
 use calls_whole::{added, made};
-use cases::table::{list, number, pointers};
+use cases::table::Case;
 use cases_rows::memory::mode;
 use telling::Reduced;
 
-// The call of a row.
+// The calls: into a reducer, into a fresh one, and that up to the first None. `on` says that the walk goes on
+// after its pivot.
+#[derive(Clone, Copy)]
+pub enum Call {
+    AddMatrix { on: bool },
+    FromMatrix { on: bool },
+    CheckDependent { on: bool },
+}
+
+// Nothing where the word that is to be a mode's number is none.
 pub fn reduce(
-    call: usize,
-    nums: &[u32],
-    wides: &[usize],
+    case: &Case<Call>,
     dense: &mut [u32],
     answers: &mut [u32],
     u_cols: &mut [u32],
@@ -21,28 +27,24 @@ pub fn reduce(
     l_vals: &mut [u32],
     l_ptrs: &mut [usize],
     pivots: &mut [u32],
-) -> Reduced {
-    let on = call % 2 == 1;
-    if call < 2 {
-        return added(
-            on, nums, wides, dense, answers, u_cols, u_vals, u_ptrs, l_cols, l_vals, l_ptrs, pivots,
-        );
+) -> Option<Reduced> {
+    match case.call {
+        Call::AddMatrix { on } => added(
+            on, case, dense, answers, u_cols, u_vals, u_ptrs, l_cols, l_vals, l_ptrs, pivots,
+        ),
+        Call::FromMatrix { on } => made(
+            on, case, dense, answers, u_cols, u_vals, u_ptrs, l_cols, l_vals, l_ptrs, pivots,
+        ),
+        Call::CheckDependent { on } => checked(
+            on, case, dense, answers, u_cols, u_vals, u_ptrs, l_cols, l_vals, l_ptrs, pivots,
+        ),
     }
-    if call < 4 {
-        return made(
-            on, nums, wides, dense, answers, u_cols, u_vals, u_ptrs, l_cols, l_vals, l_ptrs, pivots,
-        );
-    }
-    checked(
-        on, nums, wides, dense, answers, u_cols, u_vals, u_ptrs, l_cols, l_vals, l_ptrs, pivots,
-    )
 }
 
 // Into a fresh reducer, up to the first None.
 fn checked(
     on: bool,
-    nums: &[u32],
-    wides: &[usize],
+    case: &Case<Call>,
     dense: &mut [u32],
     answers: &mut [u32],
     u_cols: &mut [u32],
@@ -52,22 +54,23 @@ fn checked(
     l_vals: &mut [u32],
     l_ptrs: &mut [usize],
     pivots: &mut [u32],
-) -> Reduced {
-    let p = number(nums, wides, 0);
-    let mode = mode(nums, wides, 1);
-    let nrows = number(nums, wides, 2);
-    let ncols = number(nums, wides, 3);
-    let row_ptrs = pointers(wides, 4);
-    let cols = list(nums, wides, 5);
-    let vals = list(nums, wides, 6);
-    if on {
-        return anew::from_matrix_check_dependent_with_back_subs(
+) -> Option<Reduced> {
+    let mode = mode(case, 1)?;
+    let p = case.number(0);
+    let nrows = case.number(2);
+    let ncols = case.number(3);
+    let row_ptrs = case.pointers(4);
+    let cols = case.list(5);
+    let vals = case.list(6);
+    Some(if on {
+        anew::from_matrix_check_dependent_with_back_subs(
             p, mode, nrows, ncols, row_ptrs, cols, vals, dense, answers, u_cols, u_vals, u_ptrs,
             l_cols, l_vals, l_ptrs, pivots,
-        );
-    }
-    anew::from_matrix_check_dependent(
-        p, mode, nrows, ncols, row_ptrs, cols, vals, dense, answers, u_cols, u_vals, u_ptrs,
-        l_cols, l_vals, l_ptrs, pivots,
-    )
+        )
+    } else {
+        anew::from_matrix_check_dependent(
+            p, mode, nrows, ncols, row_ptrs, cols, vals, dense, answers, u_cols, u_vals, u_ptrs,
+            l_cols, l_vals, l_ptrs, pivots,
+        )
+    })
 }

@@ -1,12 +1,11 @@
 // The report of a text in memory as the case has it, and the answer to the case.
 #![tactic(auto)]
 
-use answers::{Out, Said, put, put_refused};
+use answers::Out;
 use cases_text::form::{TEXT, first_number, put_bytes, read_text};
-use cases_text::memory::{SHOWN, kept, kept_pointers, kept_text, lend, lend_pointers, lend_text};
+use cases_text::memory::{SHOWN, kept, lend};
 use report::report;
-use text::Printed;
-use words::seek;
+use sparse::Refusal;
 
 // The most rows, and the most columns.
 const SIDE: usize = 64;
@@ -26,7 +25,7 @@ const MOST_SHORT: u8 = 14;
 // What the call answers, and whether all lent memory but the report's is as it was.
 #[derive(Clone, Copy)]
 struct Outcome {
-    printed: Printed,
+    printed: Result<usize, Refusal>,
     kept: bool,
 }
 
@@ -36,60 +35,33 @@ pub fn said(
     text: &mut [u8; TEXT],
     shown: &mut [u8; SHOWN],
     out: &mut Out,
-    fill: usize,
-) -> Said {
-    let space = seek(line, 0, b' ');
-    let short = first_number(line, space);
+) -> Option<()> {
+    let (short, line) = first_number(line)?;
     if short > MOST_SHORT {
-        return Said::Bad;
+        return None;
     }
-    said_of(line, space, short, text, shown, out, fill)
+    let n = read_text(line, text)?;
+    put_told(text.get(..n)?, short, shown, out);
+    Some(())
 }
 
-// The text starts past the space.
-fn said_of(
-    line: &[u8],
-    space: usize,
-    short: u8,
-    text: &mut [u8],
-    shown: &mut [u8; SHOWN],
-    out: &mut Out,
-    fill: usize,
-) -> Said {
-    if space >= line.len() {
-        return Said::Bad;
-    }
-    let n = read_text(line, space + 1, text);
-    if n > text.len() {
-        return Said::Bad;
-    }
-    Said::To(put_told(&text[0..n], short, shown, out, fill))
-}
-
-fn put_told(text: &[u8], short: u8, shown: &mut [u8; SHOWN], out: &mut Out, fill: usize) -> usize {
+fn put_told(text: &[u8], short: u8, shown: &mut [u8; SHOWN], out: &mut Out) {
     let told = told(text, short, shown);
-    let kept = told.kept && kept_text(shown);
-    let printed = told.printed;
-    let fill = put_printed(out, fill, printed, shown);
+    let kept = told.kept && kept(shown);
+    put_printed(out, told.printed, shown);
     if kept {
-        return put(out, fill, b" kept");
+        out.put(b" kept");
+    } else {
+        out.put(b" changed");
     }
-    put(out, fill, b" changed")
 }
 
-fn put_printed(out: &mut Out, fill: usize, printed: Printed, shown: &[u8]) -> usize {
+// The report's bytes, of which `shown` has enough, or the refusal.
+fn put_printed(out: &mut Out, printed: Result<usize, Refusal>, shown: &[u8]) {
     match printed {
-        Printed::Bytes(n) => put_front(out, fill, shown, n),
-        Printed::Refused(why) => put_refused(out, fill, why),
+        Ok(n) => put_bytes(out, shown.get(..n).unwrap_or(&[])),
+        Err(why) => out.put_refused(why),
     }
-}
-
-// The first n bytes, of which there are enough.
-fn put_front(out: &mut Out, fill: usize, shown: &[u8], n: usize) -> usize {
-    if n > shown.len() {
-        return fill;
-    }
-    put_bytes(out, fill, &shown[0..n])
 }
 
 // Makes the memory, and calls.
@@ -147,22 +119,22 @@ fn reported(
     l_ptrs: &mut [usize],
     pivots: &mut [u32],
     shown: &mut [u8],
-) -> Printed {
+) -> Result<usize, Refusal> {
     report(
         text,
-        lend_pointers(row_ptrs, short, 1),
+        lend(row_ptrs, short, 1),
         lend(col_idcs, short, 2),
         lend(values, short, 3),
         lend(dense, short, 4),
         lend(answers, short, 5),
         lend(u_cols, short, 6),
         lend(u_vals, short, 7),
-        lend_pointers(u_ptrs, short, 8),
+        lend(u_ptrs, short, 8),
         lend(l_cols, short, 9),
         lend(l_vals, short, 10),
-        lend_pointers(l_ptrs, short, 11),
+        lend(l_ptrs, short, 11),
         lend(pivots, short, 12),
-        lend_text(shown, short, 13),
+        lend(shown, short, 13),
     )
 }
 
@@ -172,5 +144,5 @@ fn kept_work(dense: &[u32], answers: &[u32], pivots: &[u32]) -> bool {
 
 // The pointers, columns and values of a matrix.
 fn kept_three(ptrs: &[usize], cols: &[u32], vals: &[u32]) -> bool {
-    kept_pointers(ptrs) && kept(cols) && kept(vals)
+    kept(ptrs) && kept(cols) && kept(vals)
 }

@@ -1,16 +1,15 @@
 // The calls that take all rows of a matrix, with the words of a case. `on` says that a walk goes on after
-// its pivot.
+// its pivot. Nothing is answered where a word that is to be a mode's number is none.
 #![tactic(auto)]
 
-use cases::table::{list, number, pointers};
+use cases::table::Case;
 use cases_rows::memory::{counts, mode};
 use telling::Reduced;
 
-// Into a reducer: the counts are the first seven words.
-pub fn added(
+// Into a reducer, whose counts are the first seven words.
+pub fn added<C: Copy>(
     on: bool,
-    nums: &[u32],
-    wides: &[usize],
+    case: &Case<C>,
     dense: &mut [u32],
     answers: &mut [u32],
     u_cols: &mut [u32],
@@ -20,30 +19,30 @@ pub fn added(
     l_vals: &mut [u32],
     l_ptrs: &mut [usize],
     pivots: &mut [u32],
-) -> Reduced {
-    let counts = counts(nums, wides);
-    let nrows = number(nums, wides, 7);
-    let ncols = number(nums, wides, 8);
-    let row_ptrs = pointers(wides, 9);
-    let cols = list(nums, wides, 10);
-    let vals = list(nums, wides, 11);
-    if on {
-        return matrices::add_matrix_with_back_subs(
+) -> Option<Reduced> {
+    let counts = counts(case)?;
+    let nrows = case.number(7);
+    let ncols = case.number(8);
+    let row_ptrs = case.pointers(9);
+    let cols = case.list(10);
+    let vals = case.list(11);
+    Some(if on {
+        matrices::add_matrix_with_back_subs(
             counts, nrows, ncols, row_ptrs, cols, vals, dense, answers, u_cols, u_vals, u_ptrs,
             l_cols, l_vals, l_ptrs, pivots,
-        );
-    }
-    matrices::add_matrix(
-        counts, nrows, ncols, row_ptrs, cols, vals, dense, answers, u_cols, u_vals, u_ptrs, l_cols,
-        l_vals, l_ptrs, pivots,
-    )
+        )
+    } else {
+        matrices::add_matrix(
+            counts, nrows, ncols, row_ptrs, cols, vals, dense, answers, u_cols, u_vals, u_ptrs,
+            l_cols, l_vals, l_ptrs, pivots,
+        )
+    })
 }
 
 // Into a fresh reducer: the modulus and the mode are the first two words.
-pub fn made(
+pub fn made<C: Copy>(
     on: bool,
-    nums: &[u32],
-    wides: &[usize],
+    case: &Case<C>,
     dense: &mut [u32],
     answers: &mut [u32],
     u_cols: &mut [u32],
@@ -53,22 +52,23 @@ pub fn made(
     l_vals: &mut [u32],
     l_ptrs: &mut [usize],
     pivots: &mut [u32],
-) -> Reduced {
-    let p = number(nums, wides, 0);
-    let mode = mode(nums, wides, 1);
-    let nrows = number(nums, wides, 2);
-    let ncols = number(nums, wides, 3);
-    let row_ptrs = pointers(wides, 4);
-    let cols = list(nums, wides, 5);
-    let vals = list(nums, wides, 6);
-    if on {
-        return anew::from_matrix_with_back_subs(
+) -> Option<Reduced> {
+    let p = case.number(0);
+    let mode = mode(case, 1)?;
+    let nrows = case.number(2);
+    let ncols = case.number(3);
+    let row_ptrs = case.pointers(4);
+    let cols = case.list(5);
+    let vals = case.list(6);
+    Some(if on {
+        anew::from_matrix_with_back_subs(
             p, mode, nrows, ncols, row_ptrs, cols, vals, dense, answers, u_cols, u_vals, u_ptrs,
             l_cols, l_vals, l_ptrs, pivots,
-        );
-    }
-    anew::from_matrix(
-        p, mode, nrows, ncols, row_ptrs, cols, vals, dense, answers, u_cols, u_vals, u_ptrs,
-        l_cols, l_vals, l_ptrs, pivots,
-    )
+        )
+    } else {
+        anew::from_matrix(
+            p, mode, nrows, ncols, row_ptrs, cols, vals, dense, answers, u_cols, u_vals, u_ptrs,
+            l_cols, l_vals, l_ptrs, pivots,
+        )
+    })
 }

@@ -1,251 +1,161 @@
-// Cases of a family of calls. The family's table has a row for each call: its name, a space, a
-// letter for each of its words, and a line feed. The letters are n for a number, w for a number of the
+// Cases of a family of calls, by the family's table.
+use words::{read_list, read_number};
+
+// The places where a word of a case starts or ends: one more than the most words.
+const MARKS: usize = 22;
+
+// A call of a family: its name, and a letter for each of its words, n for a number, w for a number of the
 // pointers' size, l for a list and p for a list of pointers.
-use words::{NOWHERE, Place, nowhere, past, read_list, read_number, read_wide, seek};
-
-// The most words of a case.
-const MOST_WORDS: usize = 21;
-
-// The first pointers of a line's memory are no word's: they note where each word starts, by two
-// places, in the numbers and in the pointers, and where the last one ends.
-const MARKS: usize = 44;
-
-// A case that was read: the row of its call in the table, and how many words follow the name.
 #[derive(Clone, Copy)]
-pub struct Case {
-    pub call: usize,
-    pub words: usize,
+pub struct Row<C>(pub C, pub &'static str, pub &'static str);
+
+// How much of the two memories is filled.
+#[derive(Clone, Copy)]
+struct Mark {
+    nums: usize,
+    wides: usize,
 }
 
-// A modulus, and the shape of a matrix.
+// A case that was read: its call, and its words, how many these are and where each starts. The readers below
+// answer 0 or an empty list of a word that is not there: that it is, the table's letters say, and no contract.
 #[derive(Clone, Copy)]
-pub struct Shape {
+pub struct Case<'a, C> {
+    pub call: C,
+    pub words: usize,
+    marks: [Mark; MARKS],
+    nums: &'a [u32],
+    wides: &'a [usize],
+}
+
+// A modulus, and a matrix.
+#[derive(Clone, Copy)]
+pub struct Matrix<'a> {
     pub p: u32,
     pub nrows: u32,
     pub ncols: u32,
-}
-
-// A row of a table: its number, where the name ends in the line, and where the letters start.
-#[derive(Clone, Copy)]
-struct Row {
-    call: usize,
-    at: usize,
-    letters: usize,
+    pub row_ptrs: &'a [usize],
+    pub cols: &'a [u32],
+    pub vals: &'a [u32],
 }
 
 // Whether the line's first word is one of the table's calls.
-pub fn has_call(line: &[u8], table: &[u8]) -> bool {
-    let row = find(line, table);
-    row.call != NOWHERE
+pub fn has_call<C>(line: &[u8], table: &[Row<C>]) -> bool {
+    find(line, table).is_some()
 }
 
-// Reads a case of one of the table's calls, its lists of at most `long` elements; NOWHERE as its
-// call where the line is none.
-pub fn read_case(
+// Reads a case of one of the table's calls, its lists of at most `long` elements.
+pub fn read_case<'a, C: Copy>(
     line: &[u8],
-    table: &[u8],
+    table: &[Row<C>],
     long: usize,
-    nums: &mut [u32],
-    wides: &mut [usize],
-) -> Case {
-    let row = find(line, table);
-    let call = row.call;
-    let letters = row.letters;
-    if call == NOWHERE {
-        return no_case();
+    nums: &'a mut [u32],
+    wides: &'a mut [usize],
+) -> Option<Case<'a, C>> {
+    let (Row(call, _, letters), text) = find(line, table)?;
+    let mut rest = text;
+    let mut mark = Mark { nums: 0, wides: 0 };
+    let mut marks = [mark; MARKS];
+    for (k, letter) in letters.as_bytes().iter().enumerate() {
+        (rest, mark) = read_word(rest, mark, *letter, long, nums, wides)?;
+        *marks.get_mut(k + 1)? = mark;
     }
-    if letters > table.len() {
-        return no_case();
+    if !rest.is_empty() {
+        return None;
     }
-    read_words(line, row.at, call, &table[letters..], long, nums, wides)
+    Some(Case {
+        call: *call,
+        words: letters.len(),
+        marks,
+        nums,
+        wides,
+    })
 }
 
-fn no_case() -> Case {
-    Case {
-        call: NOWHERE,
-        words: 0,
-    }
-}
-
-// The row of the line's first word.
-fn find(line: &[u8], table: &[u8]) -> Row {
-    let mut start = 0;
-    for call in 0..table.len() {
-        let at = name_end(line, table, start);
-        if at != NOWHERE {
-            return Row {
-                call,
-                at,
-                letters: past(table, seek(table, start, b' '), b' '),
-            };
+// The row of the line's first word, and the text behind that word.
+fn find<'a, 't, C>(line: &'a [u8], table: &'t [Row<C>]) -> Option<(&'t Row<C>, &'a [u8])> {
+    for row in table {
+        let Row(_, name, _) = row;
+        if let Some(rest) = line.strip_prefix(name.as_bytes()) {
+            if let [b' ', ..] = rest {
+                return Some((row, rest));
+            }
         }
-        start = past(table, seek(table, start, b'\n'), b'\n');
     }
-    Row {
-        call: NOWHERE,
-        at: 0,
-        letters: 0,
-    }
+    None
 }
 
-// Where the line's first word ends, if that is the table's word from `start` on.
-fn name_end(line: &[u8], table: &[u8], start: usize) -> usize {
-    let mut j = start;
-    for i in 0..line.len() {
-        if j >= table.len() {
-            return NOWHERE;
-        }
-        if line[i] != table[j] {
-            return NOWHERE;
-        }
-        if line[i] == b' ' {
-            return i;
-        }
-        j += 1;
-    }
-    NOWHERE
-}
-
-// Reads a word for each of the letters that start the text, and notes the place before each.
-fn read_words(
-    line: &[u8],
-    at: usize,
-    call: usize,
-    letters: &[u8],
-    long: usize,
-    nums: &mut [u32],
-    wides: &mut [usize],
-) -> Case {
-    let mut place = Place {
-        at,
-        nums: 0,
-        wides: MARKS,
-    };
-    for k in 0..letters.len() {
-        note(wides, k, place);
-        if letters[k] == b'\n' {
-            return ended(line, place, call, k);
-        }
-        place = read_word(line, place, letters[k], long, nums, wides);
-    }
-    no_case()
-}
-
-// The case, if its words end where the line does.
-fn ended(line: &[u8], place: Place, call: usize, words: usize) -> Case {
-    if place.at != line.len() {
-        return no_case();
-    }
-    if words > MOST_WORDS {
-        return no_case();
-    }
-    Case { call, words }
-}
-
-fn note(wides: &mut [usize], k: usize, place: Place) {
-    if k <= MOST_WORDS {
-        set(wides, 2 * k, place.nums);
-        set(wides, 2 * k + 1, place.wides);
-    }
-}
-
-fn set(wides: &mut [usize], at: usize, to: usize) {
-    if at < wides.len() {
-        wides[at] = to;
-    }
-}
-
-// One word, and the place after it.
-fn read_word(
-    line: &[u8],
-    place: Place,
+// Reads one word: the text behind it, and how much is filled then.
+fn read_word<'a>(
+    text: &'a [u8],
+    mark: Mark,
     letter: u8,
     long: usize,
     nums: &mut [u32],
     wides: &mut [usize],
-) -> Place {
-    if letter == b'n' {
-        return read_number(line, place, nums);
-    }
-    if letter == b'w' {
-        return read_wide(line, place, wides);
-    }
-    if letter == b'l' {
-        return read_list(line, place, false, long, nums, wides);
-    }
-    if letter == b'p' {
-        return read_list(line, place, true, long, nums, wides);
-    }
-    nowhere(place)
-}
-
-// The number that is the word k.
-pub fn number(nums: &[u32], wides: &[usize], k: usize) -> u32 {
-    let at = mark(wides, k, 0);
-    if at < nums.len() {
-        return nums[at];
-    }
-    0
-}
-
-// The first three words, where they are the modulus and the shape of a matrix.
-pub fn head(nums: &[u32], wides: &[usize]) -> Shape {
-    Shape {
-        p: number(nums, wides, 0),
-        nrows: number(nums, wides, 1),
-        ncols: number(nums, wides, 2),
+) -> Option<(&'a [u8], Mark)> {
+    match letter {
+        b'n' => {
+            let (rest, end) = read_number(text, mark.nums, nums)?;
+            Some((rest, Mark { nums: end, ..mark }))
+        }
+        b'l' => {
+            let (rest, end) = read_list(text, long, mark.nums, nums)?;
+            Some((rest, Mark { nums: end, ..mark }))
+        }
+        b'w' => {
+            let (rest, end) = read_number(text, mark.wides, wides)?;
+            Some((rest, Mark { wides: end, ..mark }))
+        }
+        b'p' => {
+            let (rest, end) = read_list(text, long, mark.wides, wides)?;
+            Some((rest, Mark { wides: end, ..mark }))
+        }
+        _ => None,
     }
 }
 
-// The number of the pointers' size that is the word k.
-pub fn wide_number(wides: &[usize], k: usize) -> usize {
-    let at = mark(wides, k, 1);
-    if at < wides.len() {
-        return wides[at];
+impl<'a, C: Copy> Case<'a, C> {
+    // The number that is the word k.
+    pub fn number(&self, k: usize) -> u32 {
+        let (from, _) = self.span(k);
+        self.nums.get(from.nums).copied().unwrap_or(0)
     }
-    0
-}
 
-// The list that is the word k.
-pub fn list<'a>(nums: &'a [u32], wides: &[usize], k: usize) -> &'a [u32] {
-    part(nums, mark(wides, k, 0), mark(wides, k, 2))
-}
+    // The first six words, where they are a modulus and a matrix.
+    pub fn matrix(&self) -> Matrix<'a> {
+        Matrix {
+            p: self.number(0),
+            nrows: self.number(1),
+            ncols: self.number(2),
+            row_ptrs: self.pointers(3),
+            cols: self.list(4),
+            vals: self.list(5),
+        }
+    }
 
-// The list of pointers that is the word k.
-pub fn pointers(wides: &[usize], k: usize) -> &[usize] {
-    wide_part(wides, mark(wides, k, 1), mark(wides, k, 3))
-}
+    // The number of the pointers' size that is the word k.
+    pub fn wide_number(&self, k: usize) -> usize {
+        let (from, _) = self.span(k);
+        self.wides.get(from.wides).copied().unwrap_or(0)
+    }
 
-fn part(nums: &[u32], from: usize, to: usize) -> &[u32] {
-    if from > to {
-        return &nums[0..0];
+    // The list that is the word k.
+    pub fn list(&self, k: usize) -> &'a [u32] {
+        let (from, to) = self.span(k);
+        self.nums.get(from.nums..to.nums).unwrap_or(&[])
     }
-    if to > nums.len() {
-        return &nums[0..0];
-    }
-    &nums[from..to]
-}
 
-fn wide_part(wides: &[usize], from: usize, to: usize) -> &[usize] {
-    if from > to {
-        return &wides[0..0];
+    // The list of pointers that is the word k.
+    pub fn pointers(&self, k: usize) -> &'a [usize] {
+        let (from, to) = self.span(k);
+        self.wides.get(from.wides..to.wides).unwrap_or(&[])
     }
-    if to > wides.len() {
-        return &wides[0..0];
-    }
-    &wides[from..to]
-}
 
-fn mark(wides: &[usize], k: usize, part: usize) -> usize {
-    if k >= MOST_WORDS {
-        return 0;
+    // Where the word k starts and ends; the start of both memories where there is none.
+    fn span(&self, k: usize) -> (Mark, Mark) {
+        match self.marks.get(k..) {
+            Some([from, to, ..]) => (*from, *to),
+            _ => (self.marks[0], self.marks[0]),
+        }
     }
-    if part > 3 {
-        return 0;
-    }
-    let at = 2 * k + part;
-    if at < wides.len() {
-        return wides[at];
-    }
-    0
 }

@@ -1,53 +1,48 @@
 // The calls, each with the words that its row of the table names.
-use cases::table::{head, list, number, pointers};
-use sparse::Built;
-use words::{NUMBERS, POINTERS};
+use cases::table::Case;
+use sparse::Refusal;
 
-// The call of a row.
+#[derive(Clone, Copy)]
+pub enum Call {
+    Triplets,
+    AppendIdentity,
+    AppendCol,
+    Append,
+    AddRow,
+    TakeRevRightHalf,
+    SortRowsByPivot,
+}
+
 pub fn build(
-    call: usize,
-    nums: &[u32; NUMBERS],
-    wides: &[usize; POINTERS],
+    case: &Case<Call>,
     ptrs: &mut [usize],
     cols: &mut [u32],
     vals: &mut [u32],
-) -> Built {
-    if call == 0 {
-        return triplets(nums, wides, ptrs, cols, vals);
+) -> Result<usize, Refusal> {
+    match case.call {
+        Call::Triplets => triplets(case, ptrs, cols, vals),
+        Call::AppendIdentity => append_identity(case, ptrs, cols, vals),
+        Call::AppendCol => append_col(case, ptrs, cols, vals),
+        Call::Append => append(case, ptrs, cols, vals),
+        Call::AddRow => add_row(case, ptrs, cols, vals),
+        Call::TakeRevRightHalf => take_rev_right_half(case, ptrs, cols, vals),
+        Call::SortRowsByPivot => sort_rows_by_pivot(case, ptrs, cols, vals),
     }
-    if call == 1 {
-        return append_identity(nums, wides, ptrs, cols, vals);
-    }
-    if call == 2 {
-        return append_col(nums, wides, ptrs, cols, vals);
-    }
-    if call == 3 {
-        return append(nums, wides, ptrs, cols, vals);
-    }
-    if call == 4 {
-        return add_row(nums, wides, ptrs, cols, vals);
-    }
-    if call == 5 {
-        return take_rev_right_half(nums, wides, ptrs, cols, vals);
-    }
-    sort_rows_by_pivot(nums, wides, ptrs, cols, vals)
 }
 
 fn triplets(
-    nums: &[u32; NUMBERS],
-    wides: &[usize; POINTERS],
+    case: &Case<Call>,
     ptrs: &mut [usize],
     cols: &mut [u32],
     vals: &mut [u32],
-) -> Built {
-    let head = head(nums, wides);
+) -> Result<usize, Refusal> {
     triplets::from_triplets(
-        head.p,
-        head.nrows,
-        head.ncols,
-        list(nums, wides, 3),
-        list(nums, wides, 4),
-        list(nums, wides, 5),
+        case.number(0),
+        case.number(1),
+        case.number(2),
+        case.list(3),
+        case.list(4),
+        case.list(5),
         ptrs,
         cols,
         vals,
@@ -55,44 +50,34 @@ fn triplets(
 }
 
 fn append_identity(
-    nums: &[u32; NUMBERS],
-    wides: &[usize; POINTERS],
+    case: &Case<Call>,
     ptrs: &mut [usize],
     cols: &mut [u32],
     vals: &mut [u32],
-) -> Built {
-    let head = head(nums, wides);
+) -> Result<usize, Refusal> {
+    let m = case.matrix();
     beside::append_identity(
-        head.p,
-        head.nrows,
-        head.ncols,
-        pointers(wides, 3),
-        list(nums, wides, 4),
-        list(nums, wides, 5),
-        ptrs,
-        cols,
-        vals,
+        m.p, m.nrows, m.ncols, m.row_ptrs, m.cols, m.vals, ptrs, cols, vals,
     )
 }
 
 fn append_col(
-    nums: &[u32; NUMBERS],
-    wides: &[usize; POINTERS],
+    case: &Case<Call>,
     ptrs: &mut [usize],
     cols: &mut [u32],
     vals: &mut [u32],
-) -> Built {
-    let head = head(nums, wides);
+) -> Result<usize, Refusal> {
+    let m = case.matrix();
     beside::append_col(
-        head.p,
-        head.nrows,
-        head.ncols,
-        pointers(wides, 3),
-        list(nums, wides, 4),
-        list(nums, wides, 5),
-        number(nums, wides, 6),
-        list(nums, wides, 7),
-        list(nums, wides, 8),
+        m.p,
+        m.nrows,
+        m.ncols,
+        m.row_ptrs,
+        m.cols,
+        m.vals,
+        case.number(6),
+        case.list(7),
+        case.list(8),
         ptrs,
         cols,
         vals,
@@ -100,25 +85,24 @@ fn append_col(
 }
 
 fn append(
-    nums: &[u32; NUMBERS],
-    wides: &[usize; POINTERS],
+    case: &Case<Call>,
     ptrs: &mut [usize],
     cols: &mut [u32],
     vals: &mut [u32],
-) -> Built {
-    let head = head(nums, wides);
+) -> Result<usize, Refusal> {
+    let m = case.matrix();
     below::append(
-        head.p,
-        head.nrows,
-        head.ncols,
-        pointers(wides, 3),
-        list(nums, wides, 4),
-        list(nums, wides, 5),
-        number(nums, wides, 6),
-        number(nums, wides, 7),
-        pointers(wides, 8),
-        list(nums, wides, 9),
-        list(nums, wides, 10),
+        m.p,
+        m.nrows,
+        m.ncols,
+        m.row_ptrs,
+        m.cols,
+        m.vals,
+        case.number(6),
+        case.number(7),
+        case.pointers(8),
+        case.list(9),
+        case.list(10),
         ptrs,
         cols,
         vals,
@@ -126,22 +110,21 @@ fn append(
 }
 
 fn add_row(
-    nums: &[u32; NUMBERS],
-    wides: &[usize; POINTERS],
+    case: &Case<Call>,
     ptrs: &mut [usize],
     cols: &mut [u32],
     vals: &mut [u32],
-) -> Built {
-    let head = head(nums, wides);
+) -> Result<usize, Refusal> {
+    let m = case.matrix();
     below::add_row(
-        head.p,
-        head.nrows,
-        head.ncols,
-        pointers(wides, 3),
-        list(nums, wides, 4),
-        list(nums, wides, 5),
-        list(nums, wides, 6),
-        list(nums, wides, 7),
+        m.p,
+        m.nrows,
+        m.ncols,
+        m.row_ptrs,
+        m.cols,
+        m.vals,
+        case.list(6),
+        case.list(7),
         ptrs,
         cols,
         vals,
@@ -149,42 +132,32 @@ fn add_row(
 }
 
 fn take_rev_right_half(
-    nums: &[u32; NUMBERS],
-    wides: &[usize; POINTERS],
+    case: &Case<Call>,
     ptrs: &mut [usize],
     cols: &mut [u32],
     vals: &mut [u32],
-) -> Built {
-    let head = head(nums, wides);
+) -> Result<usize, Refusal> {
+    let m = case.matrix();
     moves::take_rev_right_half(
-        head.p,
-        head.nrows,
-        head.ncols,
-        pointers(wides, 3),
-        list(nums, wides, 4),
-        list(nums, wides, 5),
-        ptrs,
-        cols,
-        vals,
+        m.p, m.nrows, m.ncols, m.row_ptrs, m.cols, m.vals, ptrs, cols, vals,
     )
 }
 
 fn sort_rows_by_pivot(
-    nums: &[u32; NUMBERS],
-    wides: &[usize; POINTERS],
+    case: &Case<Call>,
     ptrs: &mut [usize],
     cols: &mut [u32],
     vals: &mut [u32],
-) -> Built {
-    let head = head(nums, wides);
+) -> Result<usize, Refusal> {
+    let m = case.matrix();
     moves::sort_rows_by_pivot(
-        head.p,
-        head.nrows,
-        head.ncols,
-        pointers(wides, 3),
-        list(nums, wides, 4),
-        list(nums, wides, 5),
-        list(nums, wides, 6),
+        m.p,
+        m.nrows,
+        m.ncols,
+        m.row_ptrs,
+        m.cols,
+        m.vals,
+        case.list(6),
         ptrs,
         cols,
         vals,

@@ -1,63 +1,49 @@
 // `add_cols`, which is lent the columns that it moves.
-use answers::{Out, Said, put_count, put_list, put_refused};
+use answers::Out;
 use cases::memory::lend;
-use cases::table::{has_call, head, list, pointers, read_case};
-use columns::Widened;
-use words::{LONG, NOWHERE, NUMBERS, POINTERS};
+use cases::table::{Case, Row, has_call, read_case};
+use sparse::Refusal;
+use words::LONG;
 
-// The calls, each with the letters of its words.
-const TABLE: [u8; 17] = *b"add_cols nnnplll
-";
+// The call, with the letters of its words.
+const TABLE: [Row<()>; 1] = [Row((), "add_cols", "nnnplll")];
 
 pub fn has(line: &[u8]) -> bool {
     has_call(line, &TABLE)
 }
 
-// Answers the line where it is a case of `add_cols`.
+// Answers the line where it is a case of `add_cols`: lends the columns, calls, and puts the answer and the
+// columns.
 pub fn said(
     line: &[u8],
-    nums: &mut [u32; NUMBERS],
-    wides: &mut [usize; POINTERS],
-    cols: &mut [u32; LONG],
-    out: &mut Out,
-    fill: usize,
-) -> Said {
-    let case = read_case(line, &TABLE, LONG, nums, wides);
-    if case.call == NOWHERE {
-        return Said::Bad;
-    }
-    Said::To(widen(nums, wides, cols, out, fill))
-}
-
-// Lends the columns, calls, and puts the answer and the columns.
-fn widen(
-    nums: &[u32; NUMBERS],
-    wides: &[usize; POINTERS],
+    nums: &mut [u32],
+    wides: &mut [usize],
     cols: &mut [u32],
     out: &mut Out,
-    fill: usize,
-) -> usize {
-    let cols = lend(list(nums, wides, 4), cols);
-    let fill = put_widened(out, fill, add_cols(nums, wides, cols));
-    put_list(out, fill, cols)
+) -> Option<()> {
+    let case = read_case(line, &TABLE, LONG, nums, wides)?;
+    let cols = lend(case.list(4), cols);
+    put_widened(out, add_cols(&case, cols));
+    out.put_list(cols);
+    Some(())
 }
 
-fn add_cols(nums: &[u32; NUMBERS], wides: &[usize; POINTERS], cols: &mut [u32]) -> Widened {
-    let head = head(nums, wides);
+fn add_cols(case: &Case<()>, cols: &mut [u32]) -> Result<u32, Refusal> {
+    let m = case.matrix();
     columns::add_cols(
-        head.p,
-        head.nrows,
-        head.ncols,
-        pointers(wides, 3),
+        m.p,
+        m.nrows,
+        m.ncols,
+        m.row_ptrs,
         cols,
-        list(nums, wides, 5),
-        list(nums, wides, 6),
+        m.vals,
+        case.list(6),
     )
 }
 
-fn put_widened(out: &mut Out, fill: usize, found: Widened) -> usize {
+fn put_widened(out: &mut Out, found: Result<u32, Refusal>) {
     match found {
-        Widened::Columns(ncols) => put_count(out, fill, b"columns", ncols as u64),
-        Widened::Refused(why) => put_refused(out, fill, why),
+        Ok(ncols) => out.put_count(b"columns", ncols),
+        Err(why) => out.put_refused(why),
     }
 }

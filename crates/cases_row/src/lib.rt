@@ -1,21 +1,30 @@
 // The calls that take one row.
 #![tactic(auto)]
 
-use adding::Added;
-use answers::{Out, Said, put_list};
-use cases::memory::{lend, lend_pointers};
-use cases::table::{has_call, list, pointers, read_case};
-use cases_rows::memory::{
-    ENTRIES, PLACES, ROW_NUMBERS, ROW_POINTERS, counts, fits, is_mode, put_memory,
-};
+use answers::Out;
+use cases::memory::lend;
+use cases::table::{Case, Row, has_call, read_case};
+use cases_rows::memory::{ENTRIES, PLACES, ROW_NUMBERS, ROW_POINTERS, counts, fits, put_memory};
 use cases_rows::told::put_added;
+use sparse::Refusal;
 use state::Counts;
-use words::NOWHERE;
+use stepping::Stepped;
+
+#[derive(Clone, Copy)]
+enum Call {
+    AddRow,
+    AddRowWithBackSubs,
+}
 
 // The calls, each with the letters of its words: the counts, the row, dense memory, U, L, pivots.
-const TABLE: [u8; 83] = *b"reducer_add_row nnnwwwwlllllpllpl
-reducer_add_row_with_back_subs nnnwwwwlllllpllpl
-";
+const TABLE: [Row<Call>; 2] = [
+    Row(Call::AddRow, "reducer_add_row", "nnnwwwwlllllpllpl"),
+    Row(
+        Call::AddRowWithBackSubs,
+        "reducer_add_row_with_back_subs",
+        "nnnwwwwlllllpllpl",
+    ),
+];
 
 pub fn has(line: &[u8]) -> bool {
     has_call(line, &TABLE)
@@ -35,44 +44,22 @@ pub fn said(
     l_ptrs: &mut [usize; PLACES],
     pivots: &mut [u32; PLACES],
     out: &mut Out,
-    fill: usize,
-) -> Said {
-    let case = read_case(line, &TABLE, ENTRIES, nums, wides);
-    if is_good(case.call, nums, wides) {
-        return Said::To(lent(
-            case.call == 1,
-            nums,
-            wides,
-            dense,
-            u_cols,
-            u_vals,
-            u_ptrs,
-            l_cols,
-            l_vals,
-            l_ptrs,
-            pivots,
-            out,
-            fill,
-        ));
+) -> Option<()> {
+    let case = read_case(line, &TABLE, ENTRIES, nums, wides)?;
+    let counts = counts(&case)?;
+    if !fits(&case, 9, 10) {
+        return None;
     }
-    Said::Bad
-}
-
-fn is_good(call: usize, nums: &[u32], wides: &[usize]) -> bool {
-    if call == NOWHERE {
-        return false;
-    }
-    if is_mode(nums, wides, 0) {
-        return fits(nums, wides, 9, 10);
-    }
-    false
+    lent(
+        &case, counts, dense, u_cols, u_vals, u_ptrs, l_cols, l_vals, l_ptrs, pivots, out,
+    );
+    Some(())
 }
 
 // Lends the memory.
 fn lent(
-    on: bool,
-    nums: &[u32],
-    wides: &[usize],
+    case: &Case<Call>,
+    counts: Counts,
     dense: &mut [u32],
     u_cols: &mut [u32],
     u_vals: &mut [u32],
@@ -82,26 +69,24 @@ fn lent(
     l_ptrs: &mut [usize],
     pivots: &mut [u32],
     out: &mut Out,
-    fill: usize,
-) -> usize {
-    let dense = lend(list(nums, wides, 9), dense);
-    let u_cols = lend(list(nums, wides, 10), u_cols);
-    let u_vals = lend(list(nums, wides, 11), u_vals);
-    let u_ptrs = lend_pointers(pointers(wides, 12), u_ptrs);
-    let l_cols = lend(list(nums, wides, 13), l_cols);
-    let l_vals = lend(list(nums, wides, 14), l_vals);
-    let l_ptrs = lend_pointers(pointers(wides, 15), l_ptrs);
-    let pivots = lend(list(nums, wides, 16), pivots);
+) {
+    let dense = lend(case.list(9), dense);
+    let u_cols = lend(case.list(10), u_cols);
+    let u_vals = lend(case.list(11), u_vals);
+    let u_ptrs = lend(case.pointers(12), u_ptrs);
+    let l_cols = lend(case.list(13), l_cols);
+    let l_vals = lend(case.list(14), l_vals);
+    let l_ptrs = lend(case.pointers(15), l_ptrs);
+    let pivots = lend(case.list(16), pivots);
     taken(
-        on, nums, wides, dense, u_cols, u_vals, u_ptrs, l_cols, l_vals, l_ptrs, pivots, out, fill,
-    )
+        case, counts, dense, u_cols, u_vals, u_ptrs, l_cols, l_vals, l_ptrs, pivots, out,
+    );
 }
 
 // Calls, and puts the answer and the memory.
 fn taken(
-    on: bool,
-    nums: &[u32],
-    wides: &[usize],
+    case: &Case<Call>,
+    counts: Counts,
     dense: &mut [u32],
     u_cols: &mut [u32],
     u_vals: &mut [u32],
@@ -111,35 +96,19 @@ fn taken(
     l_ptrs: &mut [usize],
     pivots: &mut [u32],
     out: &mut Out,
-    fill: usize,
-) -> usize {
+) {
     let added = add(
-        on,
-        counts(nums, wides),
-        list(nums, wides, 7),
-        list(nums, wides, 8),
-        dense,
-        u_cols,
-        u_vals,
-        u_ptrs,
-        l_cols,
-        l_vals,
-        l_ptrs,
-        pivots,
+        case, counts, dense, u_cols, u_vals, u_ptrs, l_cols, l_vals, l_ptrs, pivots,
     );
-    let fill = put_added(out, fill, added);
-    let fill = put_list(out, fill, dense);
-    put_memory(
-        out, fill, u_cols, u_vals, u_ptrs, l_cols, l_vals, l_ptrs, pivots,
-    )
+    put_added(out, added);
+    out.put_list(dense);
+    put_memory(out, u_cols, u_vals, u_ptrs, l_cols, l_vals, l_ptrs, pivots);
 }
 
 // The call of either walk.
 fn add(
-    on: bool,
+    case: &Case<Call>,
     counts: Counts,
-    cols: &[u32],
-    vals: &[u32],
     dense: &mut [u32],
     u_cols: &mut [u32],
     u_vals: &mut [u32],
@@ -148,13 +117,15 @@ fn add(
     l_vals: &mut [u32],
     l_ptrs: &mut [usize],
     pivots: &mut [u32],
-) -> Added {
-    if on {
-        return adding::add_row_with_back_subs(
+) -> Result<Stepped, Refusal> {
+    let cols = case.list(7);
+    let vals = case.list(8);
+    match case.call {
+        Call::AddRow => adding::add_row(
             counts, cols, vals, dense, u_cols, u_vals, u_ptrs, l_cols, l_vals, l_ptrs, pivots,
-        );
+        ),
+        Call::AddRowWithBackSubs => adding::add_row_with_back_subs(
+            counts, cols, vals, dense, u_cols, u_vals, u_ptrs, l_cols, l_vals, l_ptrs, pivots,
+        ),
     }
-    adding::add_row(
-        counts, cols, vals, dense, u_cols, u_vals, u_ptrs, l_cols, l_vals, l_ptrs, pivots,
-    )
 }

@@ -1,7 +1,9 @@
 // The memory of a line, and what the reducer's cases have in common: the counts, a mode as a number,
 // and the lent lists, of which U, L and the pivots are the last seven words.
-use answers::{Out, put_count, put_list, put_pointers};
-use cases::table::{list, number, pointers, wide_number};
+ghost use Rattle.std.specs.Prelude.{◌<◌};
+
+use answers::Out;
+use cases::table::Case;
 use state::{Counts, Mode};
 
 // The most elements of a list, and so of a lent list of U's or L's entries.
@@ -14,86 +16,58 @@ pub const PLACES: usize = 2000;
 pub const ROW_NUMBERS: usize = 760000;
 
 // The pointers of a line.
-pub const ROW_POINTERS: usize = 20000;
+pub const ROW_POINTERS: usize = 19956;
 
-// Whether a word is a mode's number.
-pub fn is_mode(nums: &[u32], wides: &[usize], k: usize) -> bool {
-    number(nums, wides, k) < 3
-}
-
-// The mode that is the word k.
-pub fn mode(nums: &[u32], wides: &[usize], k: usize) -> Mode {
-    let word = number(nums, wides, k);
-    if word == 0 {
-        return Mode::Full;
-    }
-    if word == 1 {
-        return Mode::Pattern;
-    }
-    Mode::None
-}
-
-fn mode_word(mode: Mode) -> u64 {
-    match mode {
-        Mode::Full => 0,
-        Mode::Pattern => 1,
-        Mode::None => 2,
+// The mode whose number is the word k.
+pub fn mode<C: Copy>(case: &Case<C>, k: usize) -> Option<Mode> {
+    match case.number(k) {
+        0 => Some(Mode::Full),
+        1 => Some(Mode::Pattern),
+        2 => Some(Mode::None),
+        _ => None,
     }
 }
 
 // The counts that are the first seven words.
-pub fn counts(nums: &[u32], wides: &[usize]) -> Counts {
-    Counts {
-        mode: mode(nums, wides, 0),
-        modulus: number(nums, wides, 1),
-        ncols: number(nums, wides, 2),
-        rank: wide_number(wides, 3),
-        u_fill: wide_number(wides, 4),
-        l_rows: wide_number(wides, 5),
-        l_fill: wide_number(wides, 6),
-    }
+pub fn counts<C: Copy>(case: &Case<C>) -> Option<Counts> {
+    Some(Counts {
+        mode: mode(case, 0)?,
+        modulus: case.number(1),
+        ncols: case.number(2),
+        rank: case.wide_number(3),
+        u_fill: case.wide_number(4),
+        l_rows: case.wide_number(5),
+        l_fill: case.wide_number(6),
+    })
 }
 
 // Whether the lent lists that are no entries fit their memory; `red` is the first word of U, and
 // those before it from `dense` on are lists too.
-pub fn fits(nums: &[u32], wides: &[usize], dense: usize, red: usize) -> bool {
-    if red > 100 {
+pub fn fits<C: Copy>(case: &Case<C>, dense: usize, red: usize) -> bool {
+    if red > 100 || dense >= red {
         return false;
     }
-    if dense >= red {
-        return false;
-    }
-    if list(nums, wides, dense).len() > PLACES {
-        return false;
-    }
-    if list(nums, wides, red - 1).len() > PLACES {
-        return false;
-    }
-    if pointers(wides, red + 2).len() > PLACES {
-        return false;
-    }
-    if pointers(wides, red + 5).len() > PLACES {
-        return false;
-    }
-    list(nums, wides, red + 6).len() <= PLACES
+    case.list(dense).len() <= PLACES
+        && case.list(red - 1).len() <= PLACES
+        && case.pointers(red + 2).len() <= PLACES
+        && case.pointers(red + 5).len() <= PLACES
+        && case.list(red + 6).len() <= PLACES
 }
 
 // The counts after a call, each behind a space.
-pub fn put_counts(out: &mut Out, fill: usize, counts: Counts) -> usize {
-    let mode = counts.mode;
-    let fill = put_count(out, fill, b"", mode_word(mode));
-    let fill = put_count(out, fill, b"", counts.modulus as u64);
-    let fill = put_count(out, fill, b"", counts.ncols as u64);
-    let fill = put_count(out, fill, b"", counts.rank as u64);
-    let fill = put_count(out, fill, b"", counts.u_fill as u64);
-    let fill = put_count(out, fill, b"", counts.l_rows as u64);
-    put_count(out, fill, b"", counts.l_fill as u64)
+pub fn put_counts(out: &mut Out, counts: Counts) {
+    out.put_count(b"", counts.mode as u32);
+    out.put_count(b"", counts.modulus);
+    out.put_count(b"", counts.ncols);
+    out.put_count(b"", counts.rank);
+    out.put_count(b"", counts.u_fill);
+    out.put_count(b"", counts.l_rows);
+    out.put_count(b"", counts.l_fill);
 }
 
 // U, L and the pivots after a call.
 pub fn put_memory(
     out: &mut Out,
-    fill: usize,
     u_cols: &[u32],
     u_vals: &[u32],
     u_ptrs: &[usize],
@@ -101,12 +75,12 @@ pub fn put_memory(
     l_vals: &[u32],
     l_ptrs: &[usize],
     pivots: &[u32],
-) -> usize {
-    let fill = put_list(out, fill, u_cols);
-    let fill = put_list(out, fill, u_vals);
-    let fill = put_pointers(out, fill, u_ptrs);
-    let fill = put_list(out, fill, l_cols);
-    let fill = put_list(out, fill, l_vals);
-    let fill = put_pointers(out, fill, l_ptrs);
-    put_list(out, fill, pivots)
+) {
+    out.put_list(u_cols);
+    out.put_list(u_vals);
+    out.put_list(u_ptrs);
+    out.put_list(l_cols);
+    out.put_list(l_vals);
+    out.put_list(l_ptrs);
+    out.put_list(pivots);
 }

@@ -1,173 +1,84 @@
 // Bytes in a line. One from a space to a tilde stands for itself, but for the backslash, which is `\\`; a line
 // feed is `\n`, and every other byte `\x` and two hexadecimal digits.
-ghost use Rattle.std.specs.Prelude.{◌<◌};
+ghost use Rattle.std.specs.Prelude.{◌<◌, IfSome};
 
-use answers::{Out, put};
+use answers::Out;
 
-// The longest line.
-pub const LONGEST: usize = 140000;
-
-// The memory for a line: one byte more, by which a longer one is known.
+// The bytes of the longest line, and one more, by which a longer one is known.
 pub const LINES: usize = 140001;
 
 // The longest text of a case.
 pub const TEXT: usize = 33000;
 
-// No place, no byte and no digit.
-const NOTHING: usize = usize::MAX;
-
-// A byte, and the place in the line after it.
-#[derive(Clone, Copy)]
-struct Byte {
-    byte: u8,
-    next: usize,
-}
-
-// Reads the bytes from `at` on into `text`, and says how many they are; more than `text` holds where the line
-// is malformed or they are too many.
-pub fn read_text(line: &[u8], at: usize, text: &mut [u8]) -> usize {
-    let mut next = at;
-    for n in 0..text.len() {
-        if next >= line.len() {
-            return n;
+// Reads the bytes that the line stands for into `text`, and says how many they are; nothing where the line is
+// malformed or they are too many.
+pub fn read_text(line: &[u8], text: &mut [u8]) -> Option<usize> {
+    let mut rest = line;
+    for (n, place) in text.iter_mut().enumerate() {
+        if rest.is_empty() {
+            return Some(n);
         }
-        let read = escaped(line, next);
-        text[n] = read.byte;
-        next = read.next;
-        if next == NOTHING {
-            return NOTHING;
+        let (byte, behind) = unescaped(rest)?;
+        *place = byte;
+        rest = behind;
+    }
+    if rest.is_empty() {
+        Some(text.len())
+    } else {
+        None
+    }
+}
+
+// The byte that is written at the front, and what is behind it.
+fn unescaped(line: &[u8]) -> Option<(u8, &[u8])> {
+    match line {
+        [b'\\', b'n', behind @ ..] => Some((b'\n', behind)),
+        [b'\\', b'\\', behind @ ..] => Some((b'\\', behind)),
+        [b'\\', b'x', high, low, behind @ ..] => {
+            Some((16 * hex_value(*high)? + hex_value(*low)?, behind))
         }
-    }
-    if next < line.len() {
-        return NOTHING;
-    }
-    text.len()
-}
-
-// The byte that is written at a place.
-fn escaped(line: &[u8], at: usize) -> Byte {
-    let byte = byte_at(line, at);
-    if byte < b' ' || byte > b'~' {
-        return no_byte();
-    }
-    if byte != b'\\' {
-        return byte_to(byte, line, at, 1);
-    }
-    let letter = byte_at(line, after(line, at, 1));
-    if letter == b'n' {
-        return byte_to(b'\n', line, at, 2);
-    }
-    if letter == b'\\' {
-        return byte_to(b'\\', line, at, 2);
-    }
-    if letter == b'x' {
-        return hex_at(line, at);
-    }
-    no_byte()
-}
-
-fn no_byte() -> Byte {
-    Byte {
-        byte: 0,
-        next: NOTHING,
+        [b'\\', ..] => None,
+        [byte @ b' '..=b'~', behind @ ..] => Some((*byte, behind)),
+        _ => None,
     }
 }
 
-// A byte that takes so many places from `at` on.
-fn byte_to(byte: u8, line: &[u8], at: usize, many: usize) -> Byte {
-    Byte {
-        byte,
-        next: after(line, at, many),
+// What a hexadecimal digit says, a letter of which is small.
+fn hex_value(digit: u8) -> Option<u8>
+    ensures { IfSome result (λ value. value < 16) }
+{
+    match digit {
+        b'0'..=b'9' => Some(digit - b'0'),
+        b'a'..=b'f' => Some(digit - b'a' + 10),
+        _ => None,
     }
 }
 
-// The byte whose two digits stand after a backslash and a letter.
-fn hex_at(line: &[u8], at: usize) -> Byte {
-    let high = digit(byte_at(line, after(line, at, 2)));
-    let low = digit(byte_at(line, after(line, at, 3)));
-    if high > 15 {
-        return no_byte();
+// The number of one or two decimal digits before the line's first space, and what is behind the space.
+pub fn first_number(line: &[u8]) -> Option<(u8, &[u8])> {
+    match line {
+        [one @ b'0'..=b'9', b' ', behind @ ..] => Some((*one - b'0', behind)),
+        [ten @ b'0'..=b'9', one @ b'0'..=b'9', b' ', behind @ ..] => {
+            Some((10 * (*ten - b'0') + (*one - b'0'), behind))
+        }
+        _ => None,
     }
-    if low > 15 {
-        return no_byte();
-    }
-    byte_to(16 * high + low, line, at, 4)
-}
-
-// The place so many bytes on; none past the line's end.
-fn after(line: &[u8], at: usize, many: usize) -> usize {
-    if at > line.len() {
-        return NOTHING;
-    }
-    if many > line.len() - at {
-        return NOTHING;
-    }
-    at + many
-}
-
-// The byte at a place; a line feed, which stands in no line, where there is none.
-fn byte_at(line: &[u8], at: usize) -> u8 {
-    if at < line.len() {
-        return line[at];
-    }
-    b'\n'
-}
-
-// What a hexadecimal digit says; 255 where the byte is none.
-fn digit(byte: u8) -> u8 {
-    if byte >= b'0' && byte <= b'9' {
-        return byte - b'0';
-    }
-    if byte >= b'a' && byte <= b'f' {
-        return byte - b'a' + 10;
-    }
-    255
-}
-
-// The number of one or two decimal digits before the line's first space; 255 where there is none.
-pub fn first_number(line: &[u8], space: usize) -> u8 {
-    let high = digit(byte_at(line, 0));
-    let low = digit(byte_at(line, 1));
-    if high > 9 {
-        return 255;
-    }
-    if space == 1 {
-        return high;
-    }
-    if space != 2 {
-        return 255;
-    }
-    if low > 9 {
-        return 255;
-    }
-    10 * high + low
 }
 
 // Puts bytes.
-pub fn put_bytes(out: &mut Out, fill: usize, bytes: &[u8]) -> usize {
-    let mut fill = fill;
-    for i in 0..bytes.len() {
-        fill = put_escaped(out, fill, bytes[i]);
+pub fn put_bytes(out: &mut Out, bytes: &[u8]) {
+    for byte in bytes {
+        put_escaped(out, *byte);
     }
-    fill
 }
 
-fn put_escaped(out: &mut Out, fill: usize, byte: u8) -> usize {
-    if byte == b'\n' {
-        return put(out, fill, b"\\n");
+fn put_escaped(out: &mut Out, byte: u8) {
+    match byte {
+        b'\n' => out.put(b"\\n"),
+        b'\\' => out.put(b"\\\\"),
+        b' '..=b'~' => out.put(&[byte]),
+        _ => out.put(&[b'\\', b'x', hex_digit(byte / 16), hex_digit(byte % 16)]),
     }
-    if byte == b'\\' {
-        return put(out, fill, b"\\\\");
-    }
-    if byte < b' ' || byte > b'~' {
-        return put_hex(out, fill, byte);
-    }
-    put(out, fill, &[byte])
-}
-
-fn put_hex(out: &mut Out, fill: usize, byte: u8) -> usize {
-    let fill = put(out, fill, b"\\x");
-    put(out, fill, &[hex_digit(byte / 16), hex_digit(byte % 16)])
 }
 
 // The hexadecimal digit of a number below 16.

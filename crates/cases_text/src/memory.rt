@@ -1,5 +1,4 @@
-// Lent lists. Each is filled with marks before the call, and looked at after it.
-ghost use Rattle.std.specs.Prelude.{◌≤◌, length};
+// Lent lists. Each is filled with marks before the call, and looked at after it: 1 to 251, over and over.
 
 // The bytes of the longest report.
 pub const SHOWN: usize = 163840;
@@ -7,104 +6,38 @@ pub const SHOWN: usize = 163840;
 // The case of which every list is short.
 const ALL: u8 = 14;
 
-// What stands at place i of a list before the call.
-fn mark(i: usize) -> u32 {
-    (i % 251 + 1) as u32
-}
-
-fn mark_pointer(i: usize) -> usize {
-    i % 251 + 1
-}
-
-fn mark_byte(i: usize) -> u8 {
-    (i % 251 + 1) as u8
-}
+// How many marks there are.
+const MARKS: usize = 251;
 
 // List k of the call, but for its last place where the case says that it is short.
-pub fn lend<'a>(list: &'a mut [u32], short: u8, k: u8) -> &'a mut [u32] {
-    let n = fill(list, is_short(short, k));
+pub fn lend<T: From<u8> + Drop>(list: &mut [T], short: u8, k: u8) -> &mut [T] {
+    for chunk in list.chunks_mut(MARKS) {
+        put_marks(chunk);
+    }
+    let is_short = short == k || short == ALL;
+    let n = if is_short {
+        list.len().saturating_sub(1)
+    } else {
+        list.len()
+    };
     &mut list[..n]
 }
 
-// A list of pointers, likewise.
-pub fn lend_pointers<'a>(list: &'a mut [usize], short: u8, k: u8) -> &'a mut [usize] {
-    let n = fill_pointers(list, is_short(short, k));
-    &mut list[..n]
-}
-
-// A text, likewise.
-pub fn lend_text<'a>(list: &'a mut [u8], short: u8, k: u8) -> &'a mut [u8] {
-    let n = fill_text(list, is_short(short, k));
-    &mut list[..n]
-}
-
-fn is_short(short: u8, k: u8) -> bool {
-    short == k || short == ALL
-}
-
-// How many of n places are lent.
-fn lent(n: usize, is_short: bool) -> usize
-    ensures { result ≤ n }
-{
-    if is_short && n > 0 {
-        return n - 1;
+fn put_marks<T: From<u8> + Drop>(chunk: &mut [T]) {
+    for (place, mark) in chunk.iter_mut().zip(1..252u8) {
+        *place = T::from(mark);
     }
-    n
-}
-
-// Marks every place, and says how many are lent.
-fn fill(list: &mut [u32], is_short: bool) -> usize
-    ensures { result ≤ length list.new }
-{
-    let n = list.len();
-    for i in 0..n {
-        list[i] = mark(i);
-    }
-    lent(n, is_short)
-}
-
-fn fill_pointers(list: &mut [usize], is_short: bool) -> usize
-    ensures { result ≤ length list.new }
-{
-    let n = list.len();
-    for i in 0..n {
-        list[i] = mark_pointer(i);
-    }
-    lent(n, is_short)
-}
-
-fn fill_text(list: &mut [u8], is_short: bool) -> usize
-    ensures { result ≤ length list.new }
-{
-    let n = list.len();
-    for i in 0..n {
-        list[i] = mark_byte(i);
-    }
-    lent(n, is_short)
 }
 
 // Whether every place has its mark.
-pub fn kept(list: &[u32]) -> bool {
-    for i in 0..list.len() {
-        if list[i] != mark(i) {
-            return false;
-        }
-    }
-    true
+pub fn kept<T: From<u8> + PartialEq + Drop>(list: &[T]) -> bool {
+    list.chunks(MARKS).all(|chunk| has_marks(chunk))
 }
 
-pub fn kept_pointers(list: &[usize]) -> bool {
-    for i in 0..list.len() {
-        if list[i] != mark_pointer(i) {
-            return false;
-        }
-    }
-    true
-}
-
-pub fn kept_text(list: &[u8]) -> bool {
-    for i in 0..list.len() {
-        if list[i] != mark_byte(i) {
+// A loop: `all` over the numbered places was measured a sixth slower for the whole program.
+fn has_marks<T: From<u8> + PartialEq + Drop>(chunk: &[T]) -> bool {
+    for (place, mark) in chunk.iter().zip(1..252u8) {
+        if *place != T::from(mark) {
             return false;
         }
     }

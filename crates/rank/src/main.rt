@@ -7,7 +7,6 @@ mod work;
 ghost use Rattle.std.specs.Prelude.{◌≤◌, length, IfOk};
 
 use sparse::Refusal;
-use sparse::inside::number_of;
 use std::env::FillError;
 use std::fmt::Display;
 use std::fs::File;
@@ -15,7 +14,6 @@ use std::io::{Print, Read};
 use std::process::ExitCode;
 use std::rt::Env;
 use std::{io, str};
-use text::Printed;
 use work::OUT;
 
 // The longest text that is read, and one byte more, by which a longer one is known.
@@ -53,6 +51,7 @@ fn tell(rt: &HostRuntime, from: &mut impl Read, name: &str) -> ExitCode {
 }
 
 // Reads up to the text's end, or as much as there is memory for, and says how many bytes these are.
+// A while: a read may give any number of bytes, so the count goes on by more than one.
 fn read_full(from: &mut impl Read, text: &mut [u8; TEXT]) -> io::Result<usize>
     ensures { IfOk result (λ n. n ≤ length text.new) }
 {
@@ -70,8 +69,8 @@ fn read_full(from: &mut impl Read, text: &mut [u8; TEXT]) -> io::Result<usize>
 fn print_report(rt: &HostRuntime, text: &[u8]) -> ExitCode {
     let mut out = [0u8; OUT];
     let printed = match work::report(text, &mut out) {
-        Printed::Bytes(n) => print_front(rt, &out, n),
-        Printed::Refused(why) => print_refused(rt, why),
+        Ok(n) => print_front(rt, &out, n),
+        Err(why) => print_refused(rt, why),
     };
     match printed {
         Ok(()) => ExitCode::SUCCESS,
@@ -81,14 +80,11 @@ fn print_report(rt: &HostRuntime, text: &[u8]) -> ExitCode {
 
 // The first n bytes. There are never more than `out` holds: the test spares a contract that says so.
 fn print_front(rt: &HostRuntime, out: &[u8], n: usize) -> io::Result<()> {
-    if n <= out.len() {
-        return rt.write_all(&out[0..n]);
-    }
-    Ok(())
+    rt.write_all(out.get(..n).unwrap_or(&[]))
 }
 
 fn print_refused(rt: &HostRuntime, why: Refusal) -> io::Result<()> {
-    println!(rt; "refused {}", number_of(why))
+    println!(rt; "{why}")
 }
 
 // Prints a message on standard error; one that can't be written is lost.

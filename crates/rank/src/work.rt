@@ -1,7 +1,8 @@
 // The memory that the report works in, on the stack: some 260 KiB with the output.
-use text::Printed;
 
 // The most rows, and the most columns.
+use sparse::Refusal;
+
 const SIDE: usize = 64;
 
 // Pointers of so many rows.
@@ -16,7 +17,7 @@ const FILLED: usize = 4096;
 // The output: at most 40 bytes for an entry of U.
 pub const OUT: usize = 163840;
 
-pub fn report(text: &[u8], out: &mut [u8; OUT]) -> Printed {
+pub fn report(text: &[u8], out: &mut [u8; OUT]) -> Result<usize, Refusal> {
     let mut row_ptrs = [0usize; POINTERS];
     let mut col_idcs = [0u32; ENTRIES];
     let mut values = [0u32; ENTRIES];

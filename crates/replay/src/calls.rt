@@ -1,9 +1,9 @@
 // The families of calls. Each is asked in turn whether the case is one of its own.
-use answers::{Out, end};
+use answers::Out;
 use cases_read::{texts, vectors, widening};
 use words::{LONG, NUMBERS, POINTERS};
 
-// Answers the case: nothing where it is empty, `bad` where it is malformed.
+// Answers the case, where it is one.
 pub fn answer(
     case: &[u8],
     nums: &mut [u32; NUMBERS],
@@ -13,28 +13,16 @@ pub fn answer(
     vals: &mut [u32; LONG],
     text: &mut [u8; LONG],
     out: &mut Out,
-    fill: usize,
-) -> usize {
-    if case.len() == 0 {
-        return fill;
-    }
+) -> Option<()> {
     if cases_told::has(case) {
-        return end(cases_told::said(case, nums, wides, out, fill), out, fill);
+        cases_told::said(case, nums, wides, out)
+    } else if cases_made::has(case) {
+        cases_made::said(case, nums, wides, ptrs, cols, vals, out)
+    } else if vectors::has(case) {
+        vectors::said(case, nums, wides, cols, vals, out)
+    } else if widening::has(case) {
+        widening::said(case, nums, wides, cols, out)
+    } else {
+        texts::said(case, nums, wides, text, out)
     }
-    if cases_made::has(case) {
-        let said = cases_made::said(case, nums, wides, ptrs, cols, vals, out, fill);
-        return end(said, out, fill);
-    }
-    if vectors::has(case) {
-        let said = vectors::said(case, nums, wides, cols, vals, out, fill);
-        return end(said, out, fill);
-    }
-    if widening::has(case) {
-        return end(
-            widening::said(case, nums, wides, cols, out, fill),
-            out,
-            fill,
-        );
-    }
-    end(texts::said(case, nums, wides, text, out, fill), out, fill)
 }

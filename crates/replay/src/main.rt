@@ -3,8 +3,9 @@
 #![tactic(auto)]
 
 mod calls;
-mod lines;
 
+use calls::answer;
+use cases::input::replay;
 use cases::memory::LINES;
 use words::{LONG, NUMBERS, POINTERS};
 
@@ -17,17 +18,9 @@ fn main(rt: HostRuntime) {
     let mut cols = [0u32; LONG];
     let mut vals = [0u32; LONG];
     let mut text = [0u8; LONG];
-    let mut out = answers::no_out(rt.stdout());
-    let fill = lines::replay(
-        rt.stdin(),
-        &mut lines,
-        &mut nums,
-        &mut wides,
-        &mut ptrs,
-        &mut cols,
-        &mut vals,
-        &mut text,
-        &mut out,
-    );
-    answers::finish(&mut out, fill);
+    replay(rt.stdin(), rt.stdout(), &mut lines, |case, out| {
+        answer(
+            case, &mut nums, &mut wides, &mut ptrs, &mut cols, &mut vals, &mut text, out,
+        )
+    });
 }

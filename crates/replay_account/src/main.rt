@@ -2,9 +2,9 @@
 // the verdict and dense memory afterwards. FORMAT.md says how an account is written.
 #![tactic(auto)]
 
-mod lines;
-
+use cases::input::replay;
 use cases_account::memory::{LINES, NUMBERS, PLACES, POINTERS};
+use cases_account::said;
 
 // All memory is made here, once, as making it costs more than a case.
 fn main(rt: HostRuntime) {
@@ -12,14 +12,7 @@ fn main(rt: HostRuntime) {
     let mut nums = [0u32; NUMBERS];
     let mut wides = [0usize; POINTERS];
     let mut dense = [0u32; PLACES];
-    let mut out = answers::no_out(rt.stdout());
-    let fill = lines::replay(
-        rt.stdin(),
-        &mut lines,
-        &mut nums,
-        &mut wides,
-        &mut dense,
-        &mut out,
-    );
-    answers::finish(&mut out, fill);
+    replay(rt.stdin(), rt.stdout(), &mut lines, |line, out| {
+        said(line, &mut nums, &mut wides, &mut dense, out)
+    });
 }

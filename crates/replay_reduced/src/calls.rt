@@ -1,9 +1,9 @@
 // The families of the calls on what a reducer has. Each is asked in turn whether the case is one of its own.
-use answers::{Out, end};
+use answers::Out;
 use cases_reduced::{ENTRIES, NUMBERS};
 use cases_rows::memory::{PLACES, ROW_POINTERS};
 
-// Answers the case: nothing where it is empty, `bad` where it is malformed. A second U has U's memory: the
+// Answers the case, where it is one. A second U has U's memory: the
 // call is given U as the line has it.
 pub fn answer(
     case: &[u8],
@@ -18,23 +18,16 @@ pub fn answer(
     l_ptrs: &mut [usize; PLACES],
     pivots: &mut [u32; PLACES],
     out: &mut Out,
-    fill: usize,
-) -> usize {
-    if case.len() == 0 {
-        return fill;
-    }
+) -> Option<()> {
     if cases_wide::has(case) {
-        let said = cases_wide::said(case, nums, wides, u_cols, pivots, out, fill);
-        return end(said, out, fill);
+        cases_wide::said(case, nums, wides, u_cols, pivots, out)
+    } else if cases_back::has(case) {
+        cases_back::said(
+            case, nums, wides, dense, u_cols, u_vals, u_ptrs, pivots, out,
+        )
+    } else {
+        cases_det::said(
+            case, nums, wides, dense, u_cols, u_vals, u_ptrs, l_cols, l_vals, l_ptrs, pivots, out,
+        )
     }
-    if cases_back::has(case) {
-        let said = cases_back::said(
-            case, nums, wides, dense, u_cols, u_vals, u_ptrs, pivots, out, fill,
-        );
-        return end(said, out, fill);
-    }
-    let said = cases_det::said(
-        case, nums, wides, dense, u_cols, u_vals, u_ptrs, l_cols, l_vals, l_ptrs, pivots, out, fill,
-    );
-    end(said, out, fill)
 }

@@ -1,8 +1,8 @@
 // The families of the reducer's calls. Each is asked in turn whether the case is one of its own.
-use answers::{Out, end};
+use answers::Out;
 use cases_rows::memory::{ENTRIES, PLACES, ROW_NUMBERS, ROW_POINTERS};
 
-// Answers the case: nothing where it is empty, `bad` where it is malformed.
+// Answers the case, where it is one.
 pub fn answer(
     case: &[u8],
     nums: &mut [u32; ROW_NUMBERS],
@@ -17,25 +17,17 @@ pub fn answer(
     l_ptrs: &mut [usize; PLACES],
     pivots: &mut [u32; PLACES],
     out: &mut Out,
-    fill: usize,
-) -> usize {
-    if case.len() == 0 {
-        return fill;
-    }
+) -> Option<()> {
     if cases_fresh::has(case) {
-        let said = cases_fresh::said(case, nums, wides, u_ptrs, l_ptrs, pivots, out, fill);
-        return end(said, out, fill);
-    }
-    if cases_row::has(case) {
-        let said = cases_row::said(
+        cases_fresh::said(case, nums, wides, u_ptrs, l_ptrs, pivots, out)
+    } else if cases_row::has(case) {
+        cases_row::said(
             case, nums, wides, dense, u_cols, u_vals, u_ptrs, l_cols, l_vals, l_ptrs, pivots, out,
-            fill,
-        );
-        return end(said, out, fill);
+        )
+    } else {
+        cases_matrix::said(
+            case, nums, wides, dense, answers, u_cols, u_vals, u_ptrs, l_cols, l_vals, l_ptrs,
+            pivots, out,
+        )
     }
-    let said = cases_matrix::said(
-        case, nums, wides, dense, answers, u_cols, u_vals, u_ptrs, l_cols, l_vals, l_ptrs, pivots,
-        out, fill,
-    );
-    end(said, out, fill)
 }

@@ -4,8 +4,9 @@
 #![tactic(auto)]
 
 mod calls;
-mod lines;
 
+use calls::answer;
+use cases::input::replay;
 use cases::memory::LINES;
 use cases_rows::memory::{ENTRIES, PLACES, ROW_NUMBERS, ROW_POINTERS};
 
@@ -23,22 +24,21 @@ fn main(rt: HostRuntime) {
     let mut l_vals = [0u32; ENTRIES];
     let mut l_ptrs = [0usize; PLACES];
     let mut pivots = [0u32; PLACES];
-    let mut out = answers::no_out(rt.stdout());
-    let fill = lines::replay(
-        rt.stdin(),
-        &mut lines,
-        &mut nums,
-        &mut wides,
-        &mut dense,
-        &mut answers,
-        &mut u_cols,
-        &mut u_vals,
-        &mut u_ptrs,
-        &mut l_cols,
-        &mut l_vals,
-        &mut l_ptrs,
-        &mut pivots,
-        &mut out,
-    );
-    answers::finish(&mut out, fill);
+    replay(rt.stdin(), rt.stdout(), &mut lines, |case, out| {
+        answer(
+            case,
+            &mut nums,
+            &mut wides,
+            &mut dense,
+            &mut answers,
+            &mut u_cols,
+            &mut u_vals,
+            &mut u_ptrs,
+            &mut l_cols,
+            &mut l_vals,
+            &mut l_ptrs,
+            &mut pivots,
+            out,
+        )
+    });
 }

@@ -2,8 +2,8 @@
 // report has, or its refusal, and whether the lent memory is as it was. FORMAT.md says how a text is written.
 #![tactic(auto)]
 
-mod lines;
-
+use calls_text::said;
+use cases::input::replay;
 use cases_text::form::{LINES, TEXT};
 use cases_text::memory::SHOWN;
 
@@ -12,7 +12,7 @@ fn main(rt: HostRuntime) {
     let mut lines = [0u8; LINES];
     let mut text = [0u8; TEXT];
     let mut shown = [0u8; SHOWN];
-    let mut out = answers::no_out(rt.stdout());
-    let fill = lines::replay(rt.stdin(), &mut lines, &mut text, &mut shown, &mut out);
-    answers::finish(&mut out, fill);
+    replay(rt.stdin(), rt.stdout(), &mut lines, |line, out| {
+        said(line, &mut text, &mut shown, out)
+    });
 }

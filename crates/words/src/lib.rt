@@ -1,11 +1,6 @@
-// The words of a line: numbers and lists. Each is put behind those before it in the memory of the
-// line, numbers and lists into one list of numbers, lists of pointers into another.
+// The words of a line: numbers and lists. Each reader is handed the text from its word's space on, and
+// answers what is left behind the word; nothing where no such word stands there.
 #![tactic(auto)]
-
-ghost use Rattle.std.specs.Prelude.{◌≤◌};
-
-// Past every line: each reader after one that found no word finds none either.
-pub const NOWHERE: usize = usize::MAX;
 
 // The most elements that a list of a matrix's or a vector's case may have.
 pub const LONG: usize = 70000;
@@ -13,274 +8,118 @@ pub const LONG: usize = 70000;
 // The numbers of such a line: six lists of the longest, and a few numbers that stand alone.
 pub const NUMBERS: usize = 420064;
 
-// The row pointers of such a line: three lists of the longest, and where each word is.
-pub const POINTERS: usize = 210064;
+// The row pointers of such a line: three lists of the longest, and a few.
+pub const POINTERS: usize = 210020;
 
 // The most digits of a number.
 const MOST_DIGITS: usize = 20;
 
-// The largest u32.
-const LARGEST: u64 = 4294967295;
-
-// How far the reading has come: in the line, in the numbers and in the pointers.
-#[derive(Clone, Copy)]
-pub struct Place {
-    pub at: usize,
-    pub nums: usize,
-    pub wides: usize,
-}
-
-// A number's value, and where its digits end.
-#[derive(Clone, Copy)]
-struct Parsed {
-    value: u64,
-    next: usize,
-}
-
-// Copies of a value: the value, how many, and where they end.
+// Copies of a value.
 #[derive(Clone, Copy)]
 struct Run {
     value: u64,
     many: u64,
-    next: usize,
 }
 
-// No word is there.
-pub fn nowhere(place: Place) -> Place {
-    moved(place, NOWHERE)
-}
-
-// The same memory, at another place in the line.
-fn moved(place: Place, at: usize) -> Place {
-    Place {
-        at,
-        nums: place.nums,
-        wides: place.wides,
-    }
-}
-
-// A number.
-pub fn read_number(line: &[u8], place: Place, nums: &mut [u32]) -> Place {
-    let to = place.nums;
-    let read = digits(line, past_space(line, place.at));
-    if read.value > LARGEST {
-        return nowhere(place);
-    }
-    if to >= nums.len() {
-        return nowhere(place);
-    }
-    nums[to] = read.value as u32;
-    Place {
-        at: read.next,
-        nums: to + 1,
-        wides: place.wides,
-    }
-}
-
-// A number of the pointers' size.
-pub fn read_wide(line: &[u8], place: Place, wides: &mut [usize]) -> Place {
-    let to = place.wides;
-    let read = digits(line, past_space(line, place.at));
-    if to >= wides.len() {
-        return nowhere(place);
-    }
-    wides[to] = read.value as usize;
-    Place {
-        at: read.next,
-        nums: place.nums,
-        wides: to + 1,
-    }
-}
-
-// A list of at most `long` elements, of pointers where `wide` says so.
-pub fn read_list(
-    line: &[u8],
-    place: Place,
-    wide: bool,
-    long: usize,
-    nums: &mut [u32],
-    wides: &mut [usize],
-) -> Place {
-    let start = past_space(line, place.at);
-    let dash = past(line, start, b'-');
-    if dash > start {
-        return moved(place, dash);
-    }
-    elements(line, moved(place, start), wide, long, nums, wides)
-}
-
-// The elements from the place on. One takes a byte or more, so there are turns enough.
-fn elements(
-    line: &[u8],
-    place: Place,
-    wide: bool,
-    long: usize,
-    nums: &mut [u32],
-    wides: &mut [usize],
-) -> Place {
-    let mut place = place;
-    let mut left: u64 = long as u64;
-    for _ in 0..line.len() {
-        let run = copies(line, place.at);
-        let many = run.many;
-        if many > left {
-            return nowhere(place);
-        }
-        left -= many;
-        place = put_copies(run, place, wide, nums, wides);
-        let next = past(line, place.at, b',');
-        if next == place.at {
-            return place;
-        }
-        place = moved(place, next);
-    }
-    nowhere(place)
-}
-
-// Puts the copies into the memory of their kind.
-fn put_copies(run: Run, place: Place, wide: bool, nums: &mut [u32], wides: &mut [usize]) -> Place {
-    if wide {
-        return wide_copies(run, place, wides);
-    }
-    narrow_copies(run, place, nums)
-}
-
-fn narrow_copies(run: Run, place: Place, nums: &mut [u32]) -> Place {
-    let from = place.nums;
-    let many = run.many;
-    if run.value > LARGEST {
-        return nowhere(place);
-    }
-    if from > nums.len() {
-        return nowhere(place);
-    }
-    if many > (nums.len() - from) as u64 {
-        return nowhere(place);
-    }
-    let to = from + many as usize;
-    let value = run.value as u32;
-    for i in from..to {
-        nums[i] = value;
-    }
-    Place {
-        at: run.next,
-        nums: to,
-        wides: place.wides,
-    }
-}
-
-fn wide_copies(run: Run, place: Place, wides: &mut [usize]) -> Place {
-    let from = place.wides;
-    let many = run.many;
-    if from > wides.len() {
-        return nowhere(place);
-    }
-    if many > (wides.len() - from) as u64 {
-        return nowhere(place);
-    }
-    let to = from + many as usize;
-    let value = run.value as usize;
-    for i in from..to {
-        wides[i] = value;
-    }
-    Place {
-        at: run.next,
-        nums: place.nums,
-        wides: to,
-    }
-}
-
-// The element, or the copies of one, that start at `at`.
-fn copies(line: &[u8], at: usize) -> Run {
-    let value = digits(line, at);
-    let start = past(line, value.next, b'*');
-    if start == value.next {
-        return Run {
-            value: value.value,
-            many: 1,
-            next: start,
-        };
-    }
-    let many = digits(line, start);
-    Run {
-        value: value.value,
-        many: many.value,
-        next: many.next,
-    }
-}
-
-// The number whose digits start at `at`: 1 to 20 of them, and below 2^64.
-fn digits(line: &[u8], at: usize) -> Parsed {
-    let mut value: u64 = 0;
-    let mut i = at;
-    while i < line.len() {
-        let more = digit(line[i]);
-        if more > 9 {
-            break;
-        }
-        if value > (u64::MAX - more) / 10 {
-            return Parsed {
-                value: 0,
-                next: NOWHERE,
-            };
-        }
-        value = value * 10 + more;
-        i += 1;
-    }
-    if i == at {
-        return Parsed {
-            value: 0,
-            next: NOWHERE,
-        };
-    }
-    if i - at > MOST_DIGITS {
-        return Parsed {
-            value: 0,
-            next: NOWHERE,
-        };
-    }
-    Parsed { value, next: i }
-}
-
-// What the digit is worth; 10 where the byte is no digit.
-fn digit(byte: u8) -> u64
-    ensures { result ≤ 10 }
+// A number, which is put into the memory at `to`; and where it ends there.
+pub fn read_number<'a, T: TryFrom<u64> + Drop>(
+    text: &'a [u8],
+    to: usize,
+    into: &mut [T],
+) -> Option<(&'a [u8], usize)>
+where
+    T::Error: Drop,
 {
-    if byte < b'0' {
-        return 10;
-    }
-    if byte > b'9' {
-        return 10;
-    }
-    (byte - b'0') as u64
+    let (value, rest) = digits(past(text, b' ')?)?;
+    *into.get_mut(to)? = T::try_from(value).ok()?;
+    Some((rest, to.checked_add(1)?))
 }
 
-// Where the first such byte stands from `from` on; the text's end where there is none.
-pub fn seek(text: &[u8], from: usize, byte: u8) -> usize {
-    for i in from..text.len() {
-        if text[i] == byte {
-            return i;
-        }
+// A list of at most `long` elements, which are put into the memory from `to` on; and where they end there.
+pub fn read_list<'a, T: TryFrom<u64> + Copy>(
+    text: &'a [u8],
+    long: usize,
+    to: usize,
+    into: &mut [T],
+) -> Option<(&'a [u8], usize)>
+where
+    T::Error: Drop,
+{
+    let text = past(text, b' ')?;
+    match past(text, b'-') {
+        Some(rest) => Some((rest, to)),
+        None => elements(text, long, to, into),
     }
-    text.len()
 }
 
-// Where the word after the space at `at` starts; the line's end where no space stands there.
-fn past_space(line: &[u8], at: usize) -> usize {
-    let start = past(line, at, b' ');
-    if start == at {
-        return line.len();
+// One element or more. Each takes a byte or more, so there are turns enough.
+fn elements<'a, T: TryFrom<u64> + Copy>(
+    text: &'a [u8],
+    long: usize,
+    to: usize,
+    into: &mut [T],
+) -> Option<(&'a [u8], usize)>
+where
+    T::Error: Drop,
+{
+    let mut rest = text;
+    let mut to = to;
+    let mut left = long as u64;
+    for _ in 0..text.len() {
+        let (run, behind) = copies(rest)?;
+        left = left.checked_sub(run.many)?;
+        to = put_copies(run, to, into)?;
+        let Some(next) = past(behind, b',') else {
+            return Some((behind, to));
+        };
+        rest = next;
     }
-    start
+    None
 }
 
-// The place after `at` where the byte stands at `at`; else `at`.
-pub fn past(line: &[u8], at: usize, byte: u8) -> usize {
-    if at >= line.len() {
-        return at;
+// Puts the copies into the memory, and says where they end there. A loop: `fill` wants a `clone` that is
+// known not to fail, which a type parameter's is not.
+fn put_copies<T: TryFrom<u64> + Copy>(run: Run, to: usize, into: &mut [T]) -> Option<usize>
+where
+    T::Error: Drop,
+{
+    let value = T::try_from(run.value).ok()?;
+    let end = to.checked_add(run.many as usize)?;
+    for place in into.get_mut(to..end)?.iter_mut() {
+        *place = value;
     }
-    if line[at] != byte {
-        return at;
+    Some(end)
+}
+
+// The element, or the copies of one, that the text starts with.
+fn copies(text: &[u8]) -> Option<(Run, &[u8])> {
+    let (value, rest) = digits(text)?;
+    let Some(rest) = past(rest, b'*') else {
+        return Some((Run { value, many: 1 }, rest));
+    };
+    let (many, rest) = digits(rest)?;
+    Some((Run { value, many }, rest))
+}
+
+// The number whose digits start the text: 1 to 20 of them, and below 2^64.
+fn digits(text: &[u8]) -> Option<(u64, &[u8])> {
+    let mut value: u64 = 0;
+    let mut rest = text;
+    while let [digit @ b'0'..=b'9', behind @ ..] = rest {
+        value = value
+            .checked_mul(10)?
+            .checked_add(u64::from(*digit - b'0'))?;
+        rest = behind;
     }
-    at + 1
+    let many = text.len() - rest.len();
+    if many == 0 || many > MOST_DIGITS {
+        return None;
+    }
+    Some((value, rest))
+}
+
+// The text behind its first byte, where that is the byte.
+fn past(text: &[u8], byte: u8) -> Option<&[u8]> {
+    let (first, rest) = text.split_first()?;
+    if *first == byte { Some(rest) } else { None }
 }

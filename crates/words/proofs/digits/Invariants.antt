@@ -1,11 +1,9 @@
--- `digits` is safe and ends: it goes on from `at`, and the value stays below 2^64.
--- Assumes nothing.
-use Prim.Native.Nat.{◌-◌, ◌≤◌}
-use lib.ListN.{length}
+-- `digits` is safe and ends: what is left of the text gets shorter.
+use Rattle.std.proofs.Common.{◌≤◌, length}
 use Rattle.words.proofs.digits.Given as goal
 
-abbrev pub invariant-loop-i : goal.invariant-loop-i
-invariant-loop-i l = l.at ≤ l.i
+abbrev pub invariant-loop-rest : goal.invariant-loop-rest
+invariant-loop-rest l = length l.rest ≤ length l.text
 
-abbrev pub decreases-loop-i : goal.decreases-loop-i
-decreases-loop-i l = length l.line - l.i
+abbrev pub decreases-loop-rest : goal.decreases-loop-rest
+decreases-loop-rest l = length l.rest

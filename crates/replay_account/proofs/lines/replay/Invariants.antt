@@ -1,6 +1,0 @@
--- `replay` ends: the steps are counted down.
--- Assumes nothing.
-use Rattle.replay_account.proofs.lines.replay.Given as goal
-
-abbrev pub decreases-loop-left : goal.decreases-loop-left
-decreases-loop-left l = l.left
