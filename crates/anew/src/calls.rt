@@ -1,14 +1,14 @@
 // The calls that start anew.
 ghost use Rattle.std.specs.Prelude.{◌≡◌, true, false};
 ghost use Rattle.sparse.specs.Lent.{outcome};
-ghost use Rattle.sparse.specs.Matrix.{matrix};
+ghost use Rattle.sparse.specs.Matrix.{seen};
 ghost use Rattle.state.specs.Memory.{memory};
 ghost use Rattle.running.specs.Rows.{night};
 ghost use Rattle.anew.specs.Calls.{from_matrix_test, from_matrix};
 
 use batches::rows::take_anew;
 use batches::tests::short_test;
-use sparse::{Refusal, try_from_csr_clean};
+use sparse::{Matrix, Refusal, try_from_csr_clean};
 use state::Mode;
 use state::start::start_test;
 use telling::Reduced;
@@ -18,11 +18,7 @@ use telling::Reduced;
 pub fn from_matrix(
     p: u32,
     mode: Mode,
-    nrows: u32,
-    ncols: u32,
-    row_ptrs: &[usize],
-    col_idcs: &[u32],
-    values: &[u32],
+    matrix: Matrix,
     dense: &mut [u32],
     answers: &mut [u32],
     u_cols: &mut [u32],
@@ -33,11 +29,11 @@ pub fn from_matrix(
     l_ptrs: &mut [usize],
     pivots: &mut [u32],
 ) -> Reduced
-    ensures { outcome result (night (memory u_cols.new u_vals.new u_ptrs.new l_cols.new l_vals.new l_ptrs.new pivots.new) answers.new dense.new) ≡ from_matrix false false p mode (matrix nrows ncols row_ptrs.now col_idcs.now values.now) (night (memory u_cols.old u_vals.old u_ptrs.old l_cols.old l_vals.old l_ptrs.old pivots.old) answers.old dense.old) }
+    ensures { outcome result (night (memory u_cols.new u_vals.new u_ptrs.new l_cols.new l_vals.new l_ptrs.new pivots.new) answers.new dense.new) ≡ from_matrix false false p mode (seen matrix.entry) (night (memory u_cols.old u_vals.old u_ptrs.old l_cols.old l_vals.old l_ptrs.old pivots.old) answers.old dense.old) }
 {
     from_rows(
-        false, false, p, mode, nrows, ncols, row_ptrs, col_idcs, values, dense, answers, u_cols,
-        u_vals, u_ptrs, l_cols, l_vals, l_ptrs, pivots,
+        false, false, p, mode, matrix, dense, answers, u_cols, u_vals, u_ptrs, l_cols, l_vals,
+        l_ptrs, pivots,
     )
 }
 
@@ -45,11 +41,7 @@ pub fn from_matrix(
 pub fn from_matrix_with_back_subs(
     p: u32,
     mode: Mode,
-    nrows: u32,
-    ncols: u32,
-    row_ptrs: &[usize],
-    col_idcs: &[u32],
-    values: &[u32],
+    matrix: Matrix,
     dense: &mut [u32],
     answers: &mut [u32],
     u_cols: &mut [u32],
@@ -60,11 +52,11 @@ pub fn from_matrix_with_back_subs(
     l_ptrs: &mut [usize],
     pivots: &mut [u32],
 ) -> Reduced
-    ensures { outcome result (night (memory u_cols.new u_vals.new u_ptrs.new l_cols.new l_vals.new l_ptrs.new pivots.new) answers.new dense.new) ≡ from_matrix true false p mode (matrix nrows ncols row_ptrs.now col_idcs.now values.now) (night (memory u_cols.old u_vals.old u_ptrs.old l_cols.old l_vals.old l_ptrs.old pivots.old) answers.old dense.old) }
+    ensures { outcome result (night (memory u_cols.new u_vals.new u_ptrs.new l_cols.new l_vals.new l_ptrs.new pivots.new) answers.new dense.new) ≡ from_matrix true false p mode (seen matrix.entry) (night (memory u_cols.old u_vals.old u_ptrs.old l_cols.old l_vals.old l_ptrs.old pivots.old) answers.old dense.old) }
 {
     from_rows(
-        true, false, p, mode, nrows, ncols, row_ptrs, col_idcs, values, dense, answers, u_cols,
-        u_vals, u_ptrs, l_cols, l_vals, l_ptrs, pivots,
+        true, false, p, mode, matrix, dense, answers, u_cols, u_vals, u_ptrs, l_cols, l_vals,
+        l_ptrs, pivots,
     )
 }
 
@@ -72,11 +64,7 @@ pub fn from_matrix_with_back_subs(
 pub fn from_matrix_check_dependent(
     p: u32,
     mode: Mode,
-    nrows: u32,
-    ncols: u32,
-    row_ptrs: &[usize],
-    col_idcs: &[u32],
-    values: &[u32],
+    matrix: Matrix,
     dense: &mut [u32],
     answers: &mut [u32],
     u_cols: &mut [u32],
@@ -87,11 +75,11 @@ pub fn from_matrix_check_dependent(
     l_ptrs: &mut [usize],
     pivots: &mut [u32],
 ) -> Reduced
-    ensures { outcome result (night (memory u_cols.new u_vals.new u_ptrs.new l_cols.new l_vals.new l_ptrs.new pivots.new) answers.new dense.new) ≡ from_matrix false true p mode (matrix nrows ncols row_ptrs.now col_idcs.now values.now) (night (memory u_cols.old u_vals.old u_ptrs.old l_cols.old l_vals.old l_ptrs.old pivots.old) answers.old dense.old) }
+    ensures { outcome result (night (memory u_cols.new u_vals.new u_ptrs.new l_cols.new l_vals.new l_ptrs.new pivots.new) answers.new dense.new) ≡ from_matrix false true p mode (seen matrix.entry) (night (memory u_cols.old u_vals.old u_ptrs.old l_cols.old l_vals.old l_ptrs.old pivots.old) answers.old dense.old) }
 {
     from_rows(
-        false, true, p, mode, nrows, ncols, row_ptrs, col_idcs, values, dense, answers, u_cols,
-        u_vals, u_ptrs, l_cols, l_vals, l_ptrs, pivots,
+        false, true, p, mode, matrix, dense, answers, u_cols, u_vals, u_ptrs, l_cols, l_vals,
+        l_ptrs, pivots,
     )
 }
 
@@ -99,11 +87,7 @@ pub fn from_matrix_check_dependent(
 pub fn from_matrix_check_dependent_with_back_subs(
     p: u32,
     mode: Mode,
-    nrows: u32,
-    ncols: u32,
-    row_ptrs: &[usize],
-    col_idcs: &[u32],
-    values: &[u32],
+    matrix: Matrix,
     dense: &mut [u32],
     answers: &mut [u32],
     u_cols: &mut [u32],
@@ -114,11 +98,11 @@ pub fn from_matrix_check_dependent_with_back_subs(
     l_ptrs: &mut [usize],
     pivots: &mut [u32],
 ) -> Reduced
-    ensures { outcome result (night (memory u_cols.new u_vals.new u_ptrs.new l_cols.new l_vals.new l_ptrs.new pivots.new) answers.new dense.new) ≡ from_matrix true true p mode (matrix nrows ncols row_ptrs.now col_idcs.now values.now) (night (memory u_cols.old u_vals.old u_ptrs.old l_cols.old l_vals.old l_ptrs.old pivots.old) answers.old dense.old) }
+    ensures { outcome result (night (memory u_cols.new u_vals.new u_ptrs.new l_cols.new l_vals.new l_ptrs.new pivots.new) answers.new dense.new) ≡ from_matrix true true p mode (seen matrix.entry) (night (memory u_cols.old u_vals.old u_ptrs.old l_cols.old l_vals.old l_ptrs.old pivots.old) answers.old dense.old) }
 {
     from_rows(
-        true, true, p, mode, nrows, ncols, row_ptrs, col_idcs, values, dense, answers, u_cols,
-        u_vals, u_ptrs, l_cols, l_vals, l_ptrs, pivots,
+        true, true, p, mode, matrix, dense, answers, u_cols, u_vals, u_ptrs, l_cols, l_vals,
+        l_ptrs, pivots,
     )
 }
 
@@ -126,20 +110,17 @@ pub fn from_matrix_check_dependent_with_back_subs(
 fn from_matrix_test(
     p: u32,
     mode: Mode,
-    nrows: u32,
-    ncols: u32,
-    row_ptrs: &[usize],
-    col_idcs: &[u32],
-    values: &[u32],
+    matrix: Matrix,
     dense: &[u32],
     answers: &[u32],
     u_ptrs: &[usize],
     l_ptrs: &[usize],
     pivots: &[u32],
 ) -> Result<(), Refusal>
-    ensures { result ≡ from_matrix_test p mode (matrix nrows ncols row_ptrs.now col_idcs.now values.now) dense.now answers.now u_ptrs.now l_ptrs.now pivots.now }
+    ensures { result ≡ from_matrix_test p mode (seen matrix.entry) dense.now answers.now u_ptrs.now l_ptrs.now pivots.now }
 {
-    try_from_csr_clean(p, nrows, ncols, row_ptrs, col_idcs, values)?;
+    let Matrix { nrows, ncols, .. } = matrix;
+    try_from_csr_clean(p, matrix)?;
     short_test(nrows, ncols, dense, answers, pivots)?;
     start_test(mode, u_ptrs, l_ptrs)
 }
@@ -149,11 +130,7 @@ fn from_rows(
     check: bool,
     p: u32,
     mode: Mode,
-    nrows: u32,
-    ncols: u32,
-    row_ptrs: &[usize],
-    col_idcs: &[u32],
-    values: &[u32],
+    matrix: Matrix,
     dense: &mut [u32],
     answers: &mut [u32],
     u_cols: &mut [u32],
@@ -164,16 +141,14 @@ fn from_rows(
     l_ptrs: &mut [usize],
     pivots: &mut [u32],
 ) -> Reduced
-    ensures { outcome result (night (memory u_cols.new u_vals.new u_ptrs.new l_cols.new l_vals.new l_ptrs.new pivots.new) answers.new dense.new) ≡ from_matrix on check p mode (matrix nrows ncols row_ptrs.now col_idcs.now values.now) (night (memory u_cols.old u_vals.old u_ptrs.old l_cols.old l_vals.old l_ptrs.old pivots.old) answers.old dense.old) }
+    ensures { outcome result (night (memory u_cols.new u_vals.new u_ptrs.new l_cols.new l_vals.new l_ptrs.new pivots.new) answers.new dense.new) ≡ from_matrix on check p mode (seen matrix.entry) (night (memory u_cols.old u_vals.old u_ptrs.old l_cols.old l_vals.old l_ptrs.old pivots.old) answers.old dense.old) }
 {
-    let tested = from_matrix_test(
-        p, mode, nrows, ncols, row_ptrs, col_idcs, values, dense, answers, u_ptrs, l_ptrs, pivots,
-    );
+    let tested = from_matrix_test(p, mode, matrix, dense, answers, u_ptrs, l_ptrs, pivots);
     if let Err(why) = tested {
         return Reduced::Refused(why);
     }
     take_anew(
-        on, check, p, mode, nrows, ncols, row_ptrs, col_idcs, values, dense, answers, u_cols,
-        u_vals, u_ptrs, l_cols, l_vals, l_ptrs, pivots,
+        on, check, p, mode, matrix, dense, answers, u_cols, u_vals, u_ptrs, l_cols, l_vals, l_ptrs,
+        pivots,
     )
 }

@@ -1,49 +1,43 @@
 // A second matrix below the first. The result goes to separate lent memory.
 ghost use Rattle.std.specs.Prelude.{◌≡◌, ◌+◌, ◌≤◌};
 ghost use Rattle.sparse.specs.Lent.{lent, outcome};
-ghost use Rattle.sparse.specs.Matrix.{matrix};
+ghost use Rattle.sparse.specs.Matrix.{seen};
 ghost use Rattle.sparse.specs.Refusals.{lowest};
 ghost use Rattle.below.specs.Below.{append_test, lower};
 ghost use Rattle.below.specs.Parts.{both_tests};
 
 use crate::rows::write_rows;
 use joining::inside::sizes_test;
-use sparse::Refusal;
 use sparse::inside::{Clause, room_test, rows_test, rows_values_test, shape_test};
+use sparse::{Matrix, Refusal};
 
 // The first matrix's rows, then the second's; or the lowest of 1 to 6, 11 and 14 that applies, and the
 // memory as it came.
 pub fn append(
     p: u32,
-    nrows: u32,
-    ncols: u32,
-    row_ptrs: &[usize],
-    col_idcs: &[u32],
-    values: &[u32],
-    more_nrows: u32,
-    more_ncols: u32,
-    more_ptrs: &[usize],
-    more_cols: &[u32],
-    more_values: &[u32],
+    matrix: Matrix,
+    other: Matrix,
     out_ptrs: &mut [usize],
     out_cols: &mut [u32],
     out_vals: &mut [u32],
 ) -> Result<usize, Refusal>
-    ensures { outcome result (lent out_ptrs.new out_cols.new out_vals.new) ≡ Rattle.below.specs.Below.append p (matrix nrows ncols row_ptrs.now col_idcs.now values.now) (matrix more_nrows more_ncols more_ptrs.now more_cols.now more_values.now) (lent out_ptrs.old out_cols.old out_vals.old) }
+    ensures { outcome result (lent out_ptrs.new out_cols.new out_vals.new) ≡ Rattle.below.specs.Below.append p (seen matrix.entry) (seen other.entry) (lent out_ptrs.old out_cols.old out_vals.old) }
 {
-    append_test(
-        p,
+    let Matrix {
+        nrows: more_nrows,
+        row_ptrs: more_ptrs,
+        col_idcs: more_cols,
+        values: more_values,
+        ..
+    } = other;
+    let Matrix {
         nrows,
-        ncols,
         row_ptrs,
         col_idcs,
         values,
-        more_nrows,
-        more_ncols,
-        more_ptrs,
-        more_cols,
-        more_values,
-    )?;
+        ..
+    } = matrix;
+    append_test(p, matrix, other)?;
     let entries = values.len() + more_values.len();
     room_test(nrows + more_nrows, entries, out_ptrs, out_cols, out_vals)?;
     write_rows(
@@ -63,39 +57,27 @@ pub fn append(
 }
 
 // 1 to 6 of both, 2 of the result, and 11.
-fn append_test(
-    p: u32,
-    nrows: u32,
-    ncols: u32,
-    row_ptrs: &[usize],
-    col_idcs: &[u32],
-    values: &[u32],
-    more_nrows: u32,
-    more_ncols: u32,
-    more_ptrs: &[usize],
-    more_cols: &[u32],
-    more_values: &[u32],
-) -> Result<(), Refusal>
-    ensures { result ≡ append_test p (matrix nrows ncols row_ptrs.now col_idcs.now values.now) (matrix more_nrows more_ncols more_ptrs.now more_cols.now more_values.now) }
+fn append_test(p: u32, matrix: Matrix, other: Matrix) -> Result<(), Refusal>
+    ensures { result ≡ append_test p (seen matrix.entry) (seen other.entry) }
 {
+    let Matrix {
+        nrows: more_nrows,
+        ncols: more_ncols,
+        values: more_values,
+        ..
+    } = other;
+    let Matrix {
+        nrows,
+        ncols,
+        values,
+        ..
+    } = matrix;
     let entries = values.len();
     let more = more_values.len();
     sizes_test(
         p, nrows, ncols, entries, more_nrows, more_ncols, more, more_nrows, 0,
     )?;
-    both_test(
-        p,
-        nrows,
-        ncols,
-        row_ptrs,
-        col_idcs,
-        values,
-        more_nrows,
-        more_ncols,
-        more_ptrs,
-        more_cols,
-        more_values,
-    )?;
+    both_test(p, matrix, other)?;
     if ncols != more_ncols {
         return Err(Refusal::Mismatch);
     }
@@ -103,24 +85,26 @@ fn append_test(
 }
 
 // 3 to 6 of two matrices.
-fn both_test(
-    p: u32,
-    nrows: u32,
-    ncols: u32,
-    row_ptrs: &[usize],
-    col_idcs: &[u32],
-    values: &[u32],
-    more_nrows: u32,
-    more_ncols: u32,
-    more_ptrs: &[usize],
-    more_cols: &[u32],
-    more_values: &[u32],
-) -> Result<(), Refusal>
-    requires { nrows + more_nrows ≤ 1024 }
-    ensures { result ≡ lowest (both_tests p (matrix nrows ncols row_ptrs.now col_idcs.now values.now) (matrix more_nrows more_ncols more_ptrs.now more_cols.now more_values.now)) }
+fn both_test(p: u32, matrix: Matrix, other: Matrix) -> Result<(), Refusal>
+    requires { matrix.nrows + other.nrows ≤ 1024 }
+    ensures { result ≡ lowest (both_tests p (seen matrix.entry) (seen other.entry)) }
 {
-    shape_test(nrows, ncols, row_ptrs, col_idcs, values)?;
-    shape_test(more_nrows, more_ncols, more_ptrs, more_cols, more_values)?;
+    let Matrix {
+        nrows: more_nrows,
+        ncols: more_ncols,
+        row_ptrs: more_ptrs,
+        col_idcs: more_cols,
+        values: more_values,
+    } = other;
+    let Matrix {
+        nrows,
+        ncols,
+        row_ptrs,
+        col_idcs,
+        values,
+    } = matrix;
+    shape_test(matrix)?;
+    shape_test(other)?;
     let one = rows_test(nrows, ncols, row_ptrs, col_idcs);
     let two = rows_test(more_nrows, more_ncols, more_ptrs, more_cols);
     lower_of(one, two)?;

@@ -3,7 +3,7 @@ ghost use Rattle.std.specs.Prelude.{◌≡◌, ◌++◌, ◌+◌, ltb};
 ghost use Rattle.lists.specs.Find.{count};
 ghost use Rattle.lists.specs.Table.{table};
 ghost use Rattle.sparse.specs.Lent.{lent, outcome};
-ghost use Rattle.sparse.specs.Matrix.{matrix};
+ghost use Rattle.sparse.specs.Matrix.{seen};
 ghost use Rattle.sparse.specs.Put.{put_rows};
 ghost use Rattle.sparse.specs.Rows.{entries};
 ghost use Rattle.writing.specs.Puts.{put, more};
@@ -12,19 +12,15 @@ ghost use Rattle.beside.specs.Beside.{with_column, append_col, append_col_test};
 ghost use Rattle.beside.specs.Parts.{in_column};
 
 use joining::inside::{forms_test, sizes_test};
-use sparse::Refusal;
 use sparse::inside::room_test;
+use sparse::{Matrix, Refusal};
 use writing::inside::{put_matrix_row, put_row_and};
 
 // The matrix with the vector as its last column, n; or the lowest of 1 to 6, 11 and 14 that applies,
 // and the memory as it came.
 pub fn append_col(
     p: u32,
-    nrows: u32,
-    ncols: u32,
-    row_ptrs: &[usize],
-    col_idcs: &[u32],
-    values: &[u32],
+    matrix: Matrix,
     len: u32,
     idcs: &[u32],
     col_values: &[u32],
@@ -32,33 +28,32 @@ pub fn append_col(
     out_cols: &mut [u32],
     out_vals: &mut [u32],
 ) -> Result<usize, Refusal>
-    ensures { outcome result (lent out_ptrs.new out_cols.new out_vals.new) ≡ append_col p (matrix nrows ncols row_ptrs.now col_idcs.now values.now) len idcs.now col_values.now (lent out_ptrs.old out_cols.old out_vals.old) }
+    ensures { outcome result (lent out_ptrs.new out_cols.new out_vals.new) ≡ append_col p (seen matrix.entry) len idcs.now col_values.now (lent out_ptrs.old out_cols.old out_vals.old) }
 {
-    append_col_test(
-        p, nrows, ncols, row_ptrs, col_idcs, values, len, idcs, col_values,
-    )?;
+    let Matrix { nrows, values, .. } = matrix;
+    append_col_test(p, matrix, len, idcs, col_values)?;
     let entries = values.len() + col_values.len();
     room_test(nrows, entries, out_ptrs, out_cols, out_vals)?;
-    write_column(
-        nrows, ncols, row_ptrs, col_idcs, values, idcs, col_values, out_ptrs, out_cols, out_vals,
-    );
+    write_column(matrix, idcs, col_values, out_ptrs, out_cols, out_vals);
     Ok(entries)
 }
 
 // 1 to 6 of both, 2 of the result, and 11.
 fn append_col_test(
     p: u32,
-    nrows: u32,
-    ncols: u32,
-    row_ptrs: &[usize],
-    col_idcs: &[u32],
-    values: &[u32],
+    matrix: Matrix,
     len: u32,
     idcs: &[u32],
     col_values: &[u32],
 ) -> Result<(), Refusal>
-    ensures { result ≡ append_col_test p (matrix nrows ncols row_ptrs.now col_idcs.now values.now) len idcs.now col_values.now }
+    ensures { result ≡ append_col_test p (seen matrix.entry) len idcs.now col_values.now }
 {
+    let Matrix {
+        nrows,
+        ncols,
+        values,
+        ..
+    } = matrix;
     sizes_test(
         p,
         nrows,
@@ -70,9 +65,7 @@ fn append_col_test(
         0,
         1,
     )?;
-    forms_test(
-        p, nrows, ncols, row_ptrs, col_idcs, values, len, idcs, col_values,
-    )?;
+    forms_test(p, matrix, len, idcs, col_values)?;
     if len != nrows {
         return Err(Refusal::Mismatch);
     }
@@ -81,20 +74,23 @@ fn append_col_test(
 
 // Writes each row with the vector's entry; `next` is the first entry that isn't written.
 fn write_column(
-    nrows: u32,
-    ncols: u32,
-    row_ptrs: &[usize],
-    col_idcs: &[u32],
-    values: &[u32],
+    matrix: Matrix,
     idcs: &[u32],
     nums: &[u32],
     out_ptrs: &mut [usize],
     out_cols: &mut [u32],
     out_vals: &mut [u32],
 )
-    requires { ColumnFits (matrix nrows ncols row_ptrs.now col_idcs.now values.now) idcs.now nums.now (lent out_ptrs.old out_cols.old out_vals.old) }
-    ensures { lent out_ptrs.new out_cols.new out_vals.new ≡ put_rows (table nrows (with_column (matrix nrows ncols row_ptrs.now col_idcs.now values.now) (entries idcs.now nums.now))) (lent out_ptrs.old out_cols.old out_vals.old) }
+    requires { ColumnFits (seen matrix) idcs.now nums.now (lent out_ptrs.old out_cols.old out_vals.old) }
+    ensures { lent out_ptrs.new out_cols.new out_vals.new ≡ put_rows (table matrix.entry.nrows (with_column (seen matrix.entry) (entries idcs.now nums.now))) (lent out_ptrs.old out_cols.old out_vals.old) }
 {
+    let Matrix {
+        nrows,
+        ncols,
+        row_ptrs,
+        col_idcs,
+        values,
+    } = matrix;
     out_ptrs[0] = 0;
     let mut at = 0;
     let mut next = 0;

@@ -2,55 +2,49 @@
 ghost use Rattle.std.specs.Prelude.{◌≡◌};
 ghost use Rattle.lists.specs.Table.{table};
 ghost use Rattle.sparse.specs.Lent.{lent, outcome};
-ghost use Rattle.sparse.specs.Matrix.{matrix};
+ghost use Rattle.sparse.specs.Matrix.{seen};
 ghost use Rattle.sparse.specs.Put.{put_rows};
 ghost use Rattle.beside.specs.Asks.{OnesFit};
 ghost use Rattle.beside.specs.Beside.{with_one, append_identity, append_identity_test};
 
 use sparse::inside::{matrix_test, modulus_test, room_test, size_test};
-use sparse::{MAX_ENTRIES, Refusal};
+use sparse::{MAX_ENTRIES, Matrix, Refusal};
 use writing::inside::put_row_and;
 
 // The matrix with the identity beside it, 1 at column n + row; or the lowest of 1 to 6, 10 and 14
 // that applies, and the memory as it came.
 pub fn append_identity(
     p: u32,
-    nrows: u32,
-    ncols: u32,
-    row_ptrs: &[usize],
-    col_idcs: &[u32],
-    values: &[u32],
+    matrix: Matrix,
     out_ptrs: &mut [usize],
     out_cols: &mut [u32],
     out_vals: &mut [u32],
 ) -> Result<usize, Refusal>
-    ensures { outcome result (lent out_ptrs.new out_cols.new out_vals.new) ≡ append_identity p (matrix nrows ncols row_ptrs.now col_idcs.now values.now) (lent out_ptrs.old out_cols.old out_vals.old) }
+    ensures { outcome result (lent out_ptrs.new out_cols.new out_vals.new) ≡ append_identity p (seen matrix.entry) (lent out_ptrs.old out_cols.old out_vals.old) }
 {
-    append_identity_test(p, nrows, ncols, row_ptrs, col_idcs, values)?;
+    let Matrix { nrows, values, .. } = matrix;
+    append_identity_test(p, matrix)?;
     let entries = values.len() + nrows as usize;
     room_test(nrows, entries, out_ptrs, out_cols, out_vals)?;
-    write_identity(
-        nrows, ncols, row_ptrs, col_idcs, values, out_ptrs, out_cols, out_vals,
-    );
+    write_identity(matrix, out_ptrs, out_cols, out_vals);
     Ok(entries)
 }
 
 // 1 to 6 of the matrix, 2 of the result, and 10.
-fn append_identity_test(
-    p: u32,
-    nrows: u32,
-    ncols: u32,
-    row_ptrs: &[usize],
-    col_idcs: &[u32],
-    values: &[u32],
-) -> Result<(), Refusal>
-    ensures { result ≡ append_identity_test p (matrix nrows ncols row_ptrs.now col_idcs.now values.now) }
+fn append_identity_test(p: u32, matrix: Matrix) -> Result<(), Refusal>
+    ensures { result ≡ append_identity_test p (seen matrix.entry) }
 {
+    let Matrix {
+        nrows,
+        ncols,
+        values,
+        ..
+    } = matrix;
     modulus_test(p)?;
     size_test(MAX_ENTRIES, nrows, ncols, values.len())?;
     let entries = values.len() + nrows as usize;
     size_test(MAX_ENTRIES, nrows, ncols + nrows, entries)?;
-    matrix_test(p, nrows, ncols, row_ptrs, col_idcs, values)?;
+    matrix_test(p, matrix)?;
     if nrows != ncols {
         return Err(Refusal::NotSquare);
     }
@@ -59,18 +53,21 @@ fn append_identity_test(
 
 // Writes each row with its 1.
 fn write_identity(
-    nrows: u32,
-    ncols: u32,
-    row_ptrs: &[usize],
-    col_idcs: &[u32],
-    values: &[u32],
+    matrix: Matrix,
     out_ptrs: &mut [usize],
     out_cols: &mut [u32],
     out_vals: &mut [u32],
 )
-    requires { OnesFit (matrix nrows ncols row_ptrs.now col_idcs.now values.now) (lent out_ptrs.old out_cols.old out_vals.old) }
-    ensures { lent out_ptrs.new out_cols.new out_vals.new ≡ put_rows (table nrows (with_one (matrix nrows ncols row_ptrs.now col_idcs.now values.now))) (lent out_ptrs.old out_cols.old out_vals.old) }
+    requires { OnesFit (seen matrix) (lent out_ptrs.old out_cols.old out_vals.old) }
+    ensures { lent out_ptrs.new out_cols.new out_vals.new ≡ put_rows (table matrix.entry.nrows (with_one (seen matrix.entry))) (lent out_ptrs.old out_cols.old out_vals.old) }
 {
+    let Matrix {
+        nrows,
+        ncols,
+        row_ptrs,
+        col_idcs,
+        values,
+    } = matrix;
     out_ptrs[0] = 0;
     let mut at = 0;
     for row in 0..nrows {

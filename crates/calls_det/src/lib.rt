@@ -20,10 +20,17 @@ pub fn determined(
     pivots: &mut [u32],
     out: &mut Out,
 ) {
-    let m = case.matrix();
     let determined = determinant::det(
-        m.p, m.nrows, m.ncols, m.row_ptrs, m.cols, m.vals, dense, u_cols, u_vals, u_ptrs, l_cols,
-        l_vals, l_ptrs, pivots,
+        case.modulus(),
+        case.matrix(),
+        dense,
+        u_cols,
+        u_vals,
+        u_ptrs,
+        l_cols,
+        l_vals,
+        l_ptrs,
+        pivots,
     );
     put_determined(out, determined);
     out.put_list(dense);

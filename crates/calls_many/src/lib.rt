@@ -57,20 +57,14 @@ fn checked(
 ) -> Option<Reduced> {
     let mode = mode(case, 1)?;
     let p = case.number(0);
-    let nrows = case.number(2);
-    let ncols = case.number(3);
-    let row_ptrs = case.pointers(4);
-    let cols = case.list(5);
-    let vals = case.list(6);
+    let matrix = case.matrix_at(2);
     Some(if on {
         anew::from_matrix_check_dependent_with_back_subs(
-            p, mode, nrows, ncols, row_ptrs, cols, vals, dense, answers, u_cols, u_vals, u_ptrs,
-            l_cols, l_vals, l_ptrs, pivots,
+            p, mode, matrix, dense, answers, u_cols, u_vals, u_ptrs, l_cols, l_vals, l_ptrs, pivots,
         )
     } else {
         anew::from_matrix_check_dependent(
-            p, mode, nrows, ncols, row_ptrs, cols, vals, dense, answers, u_cols, u_vals, u_ptrs,
-            l_cols, l_vals, l_ptrs, pivots,
+            p, mode, matrix, dense, answers, u_cols, u_vals, u_ptrs, l_cols, l_vals, l_ptrs, pivots,
         )
     })
 }

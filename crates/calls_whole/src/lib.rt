@@ -21,20 +21,14 @@ pub fn added<C: Copy>(
     pivots: &mut [u32],
 ) -> Option<Reduced> {
     let counts = counts(case)?;
-    let nrows = case.number(7);
-    let ncols = case.number(8);
-    let row_ptrs = case.pointers(9);
-    let cols = case.list(10);
-    let vals = case.list(11);
+    let matrix = case.matrix_at(7);
     Some(if on {
         matrices::add_matrix_with_back_subs(
-            counts, nrows, ncols, row_ptrs, cols, vals, dense, answers, u_cols, u_vals, u_ptrs,
-            l_cols, l_vals, l_ptrs, pivots,
+            counts, matrix, dense, answers, u_cols, u_vals, u_ptrs, l_cols, l_vals, l_ptrs, pivots,
         )
     } else {
         matrices::add_matrix(
-            counts, nrows, ncols, row_ptrs, cols, vals, dense, answers, u_cols, u_vals, u_ptrs,
-            l_cols, l_vals, l_ptrs, pivots,
+            counts, matrix, dense, answers, u_cols, u_vals, u_ptrs, l_cols, l_vals, l_ptrs, pivots,
         )
     })
 }
@@ -55,20 +49,14 @@ pub fn made<C: Copy>(
 ) -> Option<Reduced> {
     let p = case.number(0);
     let mode = mode(case, 1)?;
-    let nrows = case.number(2);
-    let ncols = case.number(3);
-    let row_ptrs = case.pointers(4);
-    let cols = case.list(5);
-    let vals = case.list(6);
+    let matrix = case.matrix_at(2);
     Some(if on {
         anew::from_matrix_with_back_subs(
-            p, mode, nrows, ncols, row_ptrs, cols, vals, dense, answers, u_cols, u_vals, u_ptrs,
-            l_cols, l_vals, l_ptrs, pivots,
+            p, mode, matrix, dense, answers, u_cols, u_vals, u_ptrs, l_cols, l_vals, l_ptrs, pivots,
         )
     } else {
         anew::from_matrix(
-            p, mode, nrows, ncols, row_ptrs, cols, vals, dense, answers, u_cols, u_vals, u_ptrs,
-            l_cols, l_vals, l_ptrs, pivots,
+            p, mode, matrix, dense, answers, u_cols, u_vals, u_ptrs, l_cols, l_vals, l_ptrs, pivots,
         )
     })
 }

@@ -1,4 +1,7 @@
 // Cases of a family of calls, by the family's table.
+ghost use Rattle.std.specs.Prelude.{◌<◌};
+
+use sparse::Matrix;
 use words::{read_list, read_number};
 
 // The places where a word of a case starts or ends: one more than the most words.
@@ -25,17 +28,6 @@ pub struct Case<'a, C> {
     marks: [Mark; MARKS],
     nums: &'a [u32],
     wides: &'a [usize],
-}
-
-// A modulus, and a matrix.
-#[derive(Clone, Copy)]
-pub struct Matrix<'a> {
-    pub p: u32,
-    pub nrows: u32,
-    pub ncols: u32,
-    pub row_ptrs: &'a [usize],
-    pub cols: &'a [u32],
-    pub vals: &'a [u32],
 }
 
 // Whether the line's first word is one of the table's calls.
@@ -121,15 +113,26 @@ impl<'a, C: Copy> Case<'a, C> {
         self.nums.get(from.nums).copied().unwrap_or(0)
     }
 
-    // The first six words, where they are a modulus and a matrix.
+    // The first word, where it is a modulus.
+    pub fn modulus(&self) -> u32 {
+        self.number(0)
+    }
+
+    // The five words behind the modulus, where they are a matrix.
     pub fn matrix(&self) -> Matrix<'a> {
+        self.matrix_at(1)
+    }
+
+    // The matrix that is the five words from k on.
+    pub fn matrix_at(&self, k: usize) -> Matrix<'a>
+        requires { k < 100 }
+    {
         Matrix {
-            p: self.number(0),
-            nrows: self.number(1),
-            ncols: self.number(2),
-            row_ptrs: self.pointers(3),
-            cols: self.list(4),
-            vals: self.list(5),
+            nrows: self.number(k),
+            ncols: self.number(k + 1),
+            row_ptrs: self.pointers(k + 2),
+            col_idcs: self.list(k + 3),
+            values: self.list(k + 4),
         }
     }
 

@@ -34,14 +34,9 @@ pub fn said(
 
 // Judges the account that the words are.
 fn judged(case: &Case<()>, dense: &mut [u32]) -> Result<bool, Refusal> {
-    let m = case.matrix();
     check_account(
-        m.p,
-        m.nrows,
-        m.ncols,
-        m.row_ptrs,
-        m.cols,
-        m.vals,
+        case.modulus(),
+        case.matrix(),
         case.list(6),
         case.list(7),
         case.list(8),

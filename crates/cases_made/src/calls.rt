@@ -55,10 +55,7 @@ fn append_identity(
     cols: &mut [u32],
     vals: &mut [u32],
 ) -> Result<usize, Refusal> {
-    let m = case.matrix();
-    beside::append_identity(
-        m.p, m.nrows, m.ncols, m.row_ptrs, m.cols, m.vals, ptrs, cols, vals,
-    )
+    beside::append_identity(case.modulus(), case.matrix(), ptrs, cols, vals)
 }
 
 fn append_col(
@@ -67,14 +64,9 @@ fn append_col(
     cols: &mut [u32],
     vals: &mut [u32],
 ) -> Result<usize, Refusal> {
-    let m = case.matrix();
     beside::append_col(
-        m.p,
-        m.nrows,
-        m.ncols,
-        m.row_ptrs,
-        m.cols,
-        m.vals,
+        case.modulus(),
+        case.matrix(),
         case.number(6),
         case.list(7),
         case.list(8),
@@ -90,19 +82,10 @@ fn append(
     cols: &mut [u32],
     vals: &mut [u32],
 ) -> Result<usize, Refusal> {
-    let m = case.matrix();
     below::append(
-        m.p,
-        m.nrows,
-        m.ncols,
-        m.row_ptrs,
-        m.cols,
-        m.vals,
-        case.number(6),
-        case.number(7),
-        case.pointers(8),
-        case.list(9),
-        case.list(10),
+        case.modulus(),
+        case.matrix(),
+        case.matrix_at(6),
         ptrs,
         cols,
         vals,
@@ -115,14 +98,9 @@ fn add_row(
     cols: &mut [u32],
     vals: &mut [u32],
 ) -> Result<usize, Refusal> {
-    let m = case.matrix();
     below::add_row(
-        m.p,
-        m.nrows,
-        m.ncols,
-        m.row_ptrs,
-        m.cols,
-        m.vals,
+        case.modulus(),
+        case.matrix(),
         case.list(6),
         case.list(7),
         ptrs,
@@ -137,10 +115,7 @@ fn take_rev_right_half(
     cols: &mut [u32],
     vals: &mut [u32],
 ) -> Result<usize, Refusal> {
-    let m = case.matrix();
-    moves::take_rev_right_half(
-        m.p, m.nrows, m.ncols, m.row_ptrs, m.cols, m.vals, ptrs, cols, vals,
-    )
+    moves::take_rev_right_half(case.modulus(), case.matrix(), ptrs, cols, vals)
 }
 
 fn sort_rows_by_pivot(
@@ -149,14 +124,9 @@ fn sort_rows_by_pivot(
     cols: &mut [u32],
     vals: &mut [u32],
 ) -> Result<usize, Refusal> {
-    let m = case.matrix();
     moves::sort_rows_by_pivot(
-        m.p,
-        m.nrows,
-        m.ncols,
-        m.row_ptrs,
-        m.cols,
-        m.vals,
+        case.modulus(),
+        case.matrix(),
         case.list(6),
         ptrs,
         cols,

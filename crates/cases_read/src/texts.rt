@@ -45,8 +45,7 @@ fn print(case: &Case<Call>, text: &mut [u8]) -> Result<usize, Refusal> {
 }
 
 fn matrix(case: &Case<Call>, text: &mut [u8]) -> Result<usize, Refusal> {
-    let m = case.matrix();
-    text::fmt_mma(m.p, m.nrows, m.ncols, m.row_ptrs, m.cols, m.vals, text)
+    text::fmt_mma(case.modulus(), case.matrix(), text)
 }
 
 fn vector(case: &Case<Call>, text: &mut [u8]) -> Result<usize, Refusal> {

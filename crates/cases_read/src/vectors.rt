@@ -61,17 +61,11 @@ fn last_row(
     idcs: &mut [u32],
     vals: &mut [u32],
 ) -> Result<Option<LastRow>, Refusal> {
-    let m = case.matrix();
-    readers::last_row(
-        m.p, m.nrows, m.ncols, m.row_ptrs, m.cols, m.vals, idcs, vals,
-    )
+    readers::last_row(case.modulus(), case.matrix(), idcs, vals)
 }
 
 fn last_column(case: &Case<Call>, idcs: &mut [u32], vals: &mut [u32]) -> Result<usize, Refusal> {
-    let m = case.matrix();
-    lasts::last_column(
-        m.p, m.nrows, m.ncols, m.row_ptrs, m.cols, m.vals, idcs, vals,
-    )
+    lasts::last_column(case.modulus(), case.matrix(), idcs, vals)
 }
 
 fn last_column_rev(
@@ -79,10 +73,7 @@ fn last_column_rev(
     idcs: &mut [u32],
     vals: &mut [u32],
 ) -> Result<usize, Refusal> {
-    let m = case.matrix();
-    lasts::last_column_rev(
-        m.p, m.nrows, m.ncols, m.row_ptrs, m.cols, m.vals, idcs, vals,
-    )
+    lasts::last_column_rev(case.modulus(), case.matrix(), idcs, vals)
 }
 
 fn last_column_by_pivot(
@@ -90,18 +81,7 @@ fn last_column_by_pivot(
     idcs: &mut [u32],
     vals: &mut [u32],
 ) -> Result<usize, Refusal> {
-    let m = case.matrix();
-    lasts::last_column_by_pivot(
-        m.p,
-        m.nrows,
-        m.ncols,
-        m.row_ptrs,
-        m.cols,
-        m.vals,
-        case.list(6),
-        idcs,
-        vals,
-    )
+    lasts::last_column_by_pivot(case.modulus(), case.matrix(), case.list(6), idcs, vals)
 }
 
 fn put_row(out: &mut Out, found: Result<Option<LastRow>, Refusal>) {

@@ -31,12 +31,12 @@ pub fn said(
 fn add_cols(case: &Case<()>, cols: &mut [u32]) -> Result<u32, Refusal> {
     let m = case.matrix();
     columns::add_cols(
-        m.p,
+        case.modulus(),
         m.nrows,
         m.ncols,
         m.row_ptrs,
         cols,
-        m.vals,
+        m.values,
         case.list(6),
     )
 }

@@ -1,6 +1,6 @@
 // The calls, each with the words that its row of the table names, and their answers.
 use answers::Out;
-use cases::table::{Case, Matrix};
+use cases::table::Case;
 use field::prime::is_modulus;
 use sparse::Refusal;
 
@@ -19,27 +19,18 @@ pub fn told(case: &Case<Call>, out: &mut Out) {
     match case.call {
         Call::Prime => put_yes(out, is_modulus(case.number(0))),
         Call::Inverse => put_inverse(out, case.number(0), case.number(1)),
-        Call::Csr => put_tested(out, csr(case.matrix())),
-        Call::Clean => put_tested(out, clean(case.matrix())),
+        Call::Csr => put_tested(out, sparse::try_from_csr(case.modulus(), case.matrix())),
+        Call::Clean => put_tested(
+            out,
+            sparse::try_from_csr_clean(case.modulus(), case.matrix()),
+        ),
         Call::Vector => put_tested(out, vector(case)),
-        Call::IsOne => put_verdict(out, is_one(case.matrix())),
+        Call::IsOne => put_verdict(out, readers::is_one(case.modulus(), case.matrix())),
     }
-}
-
-fn csr(m: Matrix) -> Result<(), Refusal> {
-    sparse::try_from_csr(m.p, m.nrows, m.ncols, m.row_ptrs, m.cols, m.vals)
-}
-
-fn clean(m: Matrix) -> Result<(), Refusal> {
-    sparse::try_from_csr_clean(m.p, m.nrows, m.ncols, m.row_ptrs, m.cols, m.vals)
 }
 
 fn vector(case: &Case<Call>) -> Result<(), Refusal> {
     sparse::try_from_csr_vector(case.number(0), case.number(1), case.list(2), case.list(3))
-}
-
-fn is_one(m: Matrix) -> Result<bool, Refusal> {
-    readers::is_one(m.p, m.nrows, m.ncols, m.row_ptrs, m.cols, m.vals)
 }
 
 // The inverse; none where p is no modulus or a is not in 1..p-1.

@@ -1,7 +1,7 @@
 // The account check.
 ghost use Rattle.std.specs.Prelude.{◌≡◌, Ok};
 ghost use Rattle.sparse.specs.Lent.{outcome};
-ghost use Rattle.sparse.specs.Matrix.{matrix};
+ghost use Rattle.sparse.specs.Matrix.{seen};
 ghost use Rattle.state.specs.Memory.{memory};
 ghost use Rattle.state.specs.State.{u_fault};
 ghost use Rattle.steps.specs.History.{at_once};
@@ -14,7 +14,7 @@ ghost use Rattle.checking.specs.Check.{check_account};
 
 use crate::rows::rows_fault;
 use crate::tests::account_test;
-use sparse::Refusal;
+use sparse::{Matrix, Refusal};
 use state::inside::state_test;
 use state::{Counts, Mode};
 use walk::kernels::wipe;
@@ -23,11 +23,7 @@ use walk::kernels::wipe;
 // applies, and dense memory as it came. After yes or no it is zero in the column range.
 pub fn check_account(
     p: u32,
-    nrows: u32,
-    ncols: u32,
-    row_ptrs: &[usize],
-    col_idcs: &[u32],
-    values: &[u32],
+    matrix: Matrix,
     answers: &[u32],
     u_cols: &[u32],
     u_vals: &[u32],
@@ -38,15 +34,13 @@ pub fn check_account(
     pivots: &[u32],
     dense: &mut [u32],
 ) -> Result<bool, Refusal>
-    ensures { outcome result dense.new ≡ check_account (account p (matrix nrows ncols row_ptrs.now col_idcs.now values.now) answers.now (memory u_cols.now u_vals.now u_ptrs.now l_cols.now l_vals.now l_ptrs.now pivots.now)) dense.old }
+    ensures { outcome result dense.new ≡ check_account (account p (seen matrix.entry) answers.now (memory u_cols.now u_vals.now u_ptrs.now l_cols.now l_vals.now l_ptrs.now pivots.now)) dense.old }
 {
     account_test(
-        p, nrows, ncols, row_ptrs, col_idcs, values, answers, u_cols, u_vals, u_ptrs, l_cols,
-        l_vals, l_ptrs, pivots, dense,
+        p, matrix, answers, u_cols, u_vals, u_ptrs, l_cols, l_vals, l_ptrs, pivots, dense,
     )?;
     let fault = account_fault(
-        p, nrows, ncols, row_ptrs, col_idcs, values, answers, u_cols, u_vals, u_ptrs, l_cols,
-        l_vals, l_ptrs, pivots, dense,
+        p, matrix, answers, u_cols, u_vals, u_ptrs, l_cols, l_vals, l_ptrs, pivots, dense,
     );
     Ok(!fault)
 }
@@ -55,11 +49,7 @@ pub fn check_account(
 // cleared first: only now, for a refusal leaves it.
 fn account_fault(
     p: u32,
-    nrows: u32,
-    ncols: u32,
-    row_ptrs: &[usize],
-    col_idcs: &[u32],
-    values: &[u32],
+    matrix: Matrix,
     answers: &[u32],
     u_cols: &[u32],
     u_vals: &[u32],
@@ -70,17 +60,17 @@ fn account_fault(
     pivots: &[u32],
     dense: &mut [u32],
 ) -> bool
-    requires { account_test dense.old (account p (matrix nrows ncols row_ptrs.now col_idcs.now values.now) answers.now (memory u_cols.now u_vals.now u_ptrs.now l_cols.now l_vals.now l_ptrs.now pivots.now)) ≡ Ok tt }
-    ensures { outcome result dense.new ≡ outcome (account_fault at_once (account p (matrix nrows ncols row_ptrs.now col_idcs.now values.now) answers.now (memory u_cols.now u_vals.now u_ptrs.now l_cols.now l_vals.now l_ptrs.now pivots.now))) (cleared ncols dense.old) }
+    requires { account_test dense.old (account p (seen matrix) answers.now (memory u_cols.now u_vals.now u_ptrs.now l_cols.now l_vals.now l_ptrs.now pivots.now)) ≡ Ok tt }
+    ensures { outcome result dense.new ≡ outcome (account_fault at_once (account p (seen matrix.entry) answers.now (memory u_cols.now u_vals.now u_ptrs.now l_cols.now l_vals.now l_ptrs.now pivots.now))) (cleared matrix.entry.ncols dense.old) }
 {
+    let Matrix { ncols, .. } = matrix;
     let front = &mut dense[..ncols as usize];
     wipe(0, front);
     if u_unsound(p, ncols, u_cols, u_vals, u_ptrs, pivots) {
         return true;
     }
     rows_fault(
-        p, nrows, ncols, row_ptrs, col_idcs, values, answers, u_cols, u_vals, u_ptrs, l_cols,
-        l_vals, l_ptrs, pivots, front,
+        p, matrix, answers, u_cols, u_vals, u_ptrs, l_cols, l_vals, l_ptrs, pivots, front,
     )
 }
 

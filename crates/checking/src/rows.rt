@@ -1,7 +1,7 @@
 // All rows of an account.
 ghost use Rattle.std.specs.Prelude.{◌≡◌};
 ghost use Rattle.sparse.specs.Lent.{outcome};
-ghost use Rattle.sparse.specs.Matrix.{matrix};
+ghost use Rattle.sparse.specs.Matrix.{seen};
 ghost use Rattle.sparse.specs.Rows.{entries};
 ghost use Rattle.state.specs.Memory.{memory};
 ghost use Rattle.accounts.specs.Account.{account};
@@ -9,6 +9,7 @@ ghost use Rattle.checking.specs.Asks.{Checks, RowChecks};
 ghost use Rattle.checking.specs.Rows.{row_wrong, rows_fault};
 
 use judging::rows::judge_row;
+use sparse::Matrix;
 use stepping::rows::{is_at_once, one_if};
 use telling::NONE;
 
@@ -50,11 +51,7 @@ fn row_fault(
 // Whether a row is wrong, or U or L has rows left over. Dense memory is zero before and after.
 pub fn rows_fault(
     p: u32,
-    nrows: u32,
-    ncols: u32,
-    row_ptrs: &[usize],
-    col_idcs: &[u32],
-    values: &[u32],
+    matrix: Matrix,
     answers: &[u32],
     u_cols: &[u32],
     u_vals: &[u32],
@@ -65,9 +62,16 @@ pub fn rows_fault(
     pivots: &[u32],
     dense: &mut [u32],
 ) -> bool
-    requires { Checks (account p (matrix nrows ncols row_ptrs.now col_idcs.now values.now) answers.now (memory u_cols.now u_vals.now u_ptrs.now l_cols.now l_vals.now l_ptrs.now pivots.now)) dense.old }
-    ensures { outcome result dense.new ≡ outcome (rows_fault (account p (matrix nrows ncols row_ptrs.now col_idcs.now values.now) answers.now (memory u_cols.now u_vals.now u_ptrs.now l_cols.now l_vals.now l_ptrs.now pivots.now))) dense.old }
+    requires { Checks (account p (seen matrix) answers.now (memory u_cols.now u_vals.now u_ptrs.now l_cols.now l_vals.now l_ptrs.now pivots.now)) dense.old }
+    ensures { outcome result dense.new ≡ outcome (rows_fault (account p (seen matrix.entry) answers.now (memory u_cols.now u_vals.now u_ptrs.now l_cols.now l_vals.now l_ptrs.now pivots.now))) dense.old }
 {
+    let Matrix {
+        nrows,
+        ncols,
+        row_ptrs,
+        col_idcs,
+        values,
+    } = matrix;
     let rank = u_ptrs.len() - 1;
     let mut accepted = 0;
     let mut used = 0;

@@ -1,6 +1,6 @@
 // The tests of an account: whether it is judged at all.
 ghost use Rattle.std.specs.Prelude.{◌≡◌, not, ◌||◌, eqb, length};
-ghost use Rattle.sparse.specs.Matrix.{matrix};
+ghost use Rattle.sparse.specs.Matrix.{seen};
 ghost use Rattle.sparse.specs.Refusals.{refuse, lowest};
 ghost use Rattle.sparse.specs.declared.Refusal.TheVariants.{Shape, State};
 ghost use Rattle.state.specs.Memory.{memory};
@@ -10,7 +10,7 @@ ghost use Rattle.checking.specs.Rows.{rows_tests};
 
 use adding::inside::short_test;
 use sparse::inside::{modulus_test, size_test};
-use sparse::{MAX_ENTRIES, Refusal, try_from_csr_clean};
+use sparse::{MAX_ENTRIES, Matrix, Refusal, try_from_csr_clean};
 use state::multipliers::is_crooked;
 
 // 3 of the answers: one per row.
@@ -24,21 +24,19 @@ fn answers_test(nrows: u32, answers: &[u32]) -> Result<(), Refusal>
 }
 
 // 1 and 2 of the rows, 3 of the answers, 1 to 7 of the rows.
-fn rows_test(
-    p: u32,
-    nrows: u32,
-    ncols: u32,
-    row_ptrs: &[usize],
-    col_idcs: &[u32],
-    values: &[u32],
-    answers: &[u32],
-) -> Result<(), Refusal>
-    ensures { result ≡ lowest (rows_tests p (matrix nrows ncols row_ptrs.now col_idcs.now values.now) answers.now) }
+fn rows_test(p: u32, matrix: Matrix, answers: &[u32]) -> Result<(), Refusal>
+    ensures { result ≡ lowest (rows_tests p (seen matrix.entry) answers.now) }
 {
+    let Matrix {
+        nrows,
+        ncols,
+        values,
+        ..
+    } = matrix;
     modulus_test(p)?;
     size_test(MAX_ENTRIES, nrows, ncols, values.len())?;
     answers_test(nrows, answers)?;
-    try_from_csr_clean(p, nrows, ncols, row_ptrs, col_idcs, values)
+    try_from_csr_clean(p, matrix)
 }
 
 // Whether slices break 3 or 4. "Pointers less one" is formed only where there is one.
@@ -77,11 +75,7 @@ fn slices_test(
 // 1 to 7 of the rows and their answers, 11, and 13.
 pub fn account_test(
     p: u32,
-    nrows: u32,
-    ncols: u32,
-    row_ptrs: &[usize],
-    col_idcs: &[u32],
-    values: &[u32],
+    matrix: Matrix,
     answers: &[u32],
     u_cols: &[u32],
     u_vals: &[u32],
@@ -92,9 +86,10 @@ pub fn account_test(
     pivots: &[u32],
     dense: &[u32],
 ) -> Result<(), Refusal>
-    ensures { result ≡ account_test dense.now (account p (matrix nrows ncols row_ptrs.now col_idcs.now values.now) answers.now (memory u_cols.now u_vals.now u_ptrs.now l_cols.now l_vals.now l_ptrs.now pivots.now)) }
+    ensures { result ≡ account_test dense.now (account p (seen matrix.entry) answers.now (memory u_cols.now u_vals.now u_ptrs.now l_cols.now l_vals.now l_ptrs.now pivots.now)) }
 {
-    rows_test(p, nrows, ncols, row_ptrs, col_idcs, values, answers)?;
+    let Matrix { ncols, .. } = matrix;
+    rows_test(p, matrix, answers)?;
     short_test(ncols, dense, pivots)?;
     slices_test(u_cols, u_vals, u_ptrs, l_cols, l_vals, l_ptrs)
 }

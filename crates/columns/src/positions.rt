@@ -2,16 +2,17 @@
 ghost use Rattle.std.specs.Prelude.{◌≡◌, map, ◌+◌, ◌≤◌, ◌<◌, leb, length};
 ghost use Rattle.lists.specs.Find.{count};
 ghost use Rattle.sparse.specs.Lent.{outcome};
-ghost use Rattle.sparse.specs.Matrix.{matrix};
+ghost use Rattle.sparse.specs.Matrix.{matrix, seen};
 ghost use Rattle.sparse.specs.Tests.{size_test};
 ghost use Rattle.columns.specs.Asks.{NotFalling, Movable};
 ghost use Rattle.columns.specs.Positions.{position_test, positions_test, moved, add_cols_test, add_cols};
 
 use sparse::inside::{matrix_test, modulus_test, size_test};
-use sparse::{MAX_ENTRIES, MAX_SIDE, Refusal};
+use sparse::{MAX_ENTRIES, MAX_SIDE, Matrix, Refusal};
 
 // Moves the stored columns in place, and answers the new column count; or the lowest of 1 to 6 and
-// 12 that applies, and the columns as they came.
+// 12 that applies, and the columns as they came. The five parts stand alone here: a `Matrix` shares them
+// all, and the columns are lent to be changed.
 pub fn add_cols(
     p: u32,
     nrows: u32,
@@ -23,27 +24,35 @@ pub fn add_cols(
 ) -> Result<u32, Refusal>
     ensures { outcome result col_idcs.new ≡ add_cols p (matrix nrows ncols row_ptrs.now col_idcs.old values.now) positions.now }
 {
-    add_cols_test(p, nrows, ncols, row_ptrs, col_idcs, values, positions)?;
+    add_cols_test(
+        p,
+        Matrix {
+            nrows,
+            ncols,
+            row_ptrs,
+            col_idcs,
+            values,
+        },
+        positions,
+    )?;
     move_columns(positions, col_idcs);
     Ok(ncols + positions.len() as u32)
 }
 
 // 1 to 6, 2 for the widened matrix too, and 12.
-fn add_cols_test(
-    p: u32,
-    nrows: u32,
-    ncols: u32,
-    row_ptrs: &[usize],
-    col_idcs: &[u32],
-    values: &[u32],
-    positions: &[u32],
-) -> Result<(), Refusal>
-    ensures { result ≡ add_cols_test p (matrix nrows ncols row_ptrs.now col_idcs.now values.now) positions.now }
+fn add_cols_test(p: u32, matrix: Matrix, positions: &[u32]) -> Result<(), Refusal>
+    ensures { result ≡ add_cols_test p (seen matrix.entry) positions.now }
 {
+    let Matrix {
+        nrows,
+        ncols,
+        values,
+        ..
+    } = matrix;
     modulus_test(p)?;
     size_test(MAX_ENTRIES, nrows, ncols, values.len())?;
     wider_test(nrows, ncols, values.len(), positions.len())?;
-    matrix_test(p, nrows, ncols, row_ptrs, col_idcs, values)?;
+    matrix_test(p, matrix)?;
     positions_test(ncols, positions)
 }
 

@@ -1,7 +1,7 @@
 // The determinant.
 ghost use Rattle.std.specs.Prelude.{◌≡◌};
 ghost use Rattle.sparse.specs.Lent.{outcome};
-ghost use Rattle.sparse.specs.Matrix.{matrix};
+ghost use Rattle.sparse.specs.Matrix.{seen};
 ghost use Rattle.state.specs.Memory.{memory};
 ghost use Rattle.stepping.specs.Take.{lists};
 ghost use Rattle.determinant.specs.Asks.{Readable};
@@ -10,7 +10,7 @@ ghost use Rattle.determinant.specs.Det;
 use crate::{Determined, Valued};
 use batches::rows::take_anew;
 use signs::values::value_of;
-use sparse::{Refusal, try_from_csr_clean};
+use sparse::{Matrix, Refusal, try_from_csr_clean};
 use state::Mode;
 use state::start::start_test;
 use telling::Reduced;
@@ -20,11 +20,7 @@ use telling::Reduced;
 // place, 14, and everything lent as it came. 14 at a row ends the call, and the rows before it stay.
 pub fn det(
     p: u32,
-    nrows: u32,
-    ncols: u32,
-    row_ptrs: &[usize],
-    col_idcs: &[u32],
-    values: &[u32],
+    matrix: Matrix,
     dense: &mut [u32],
     u_cols: &mut [u32],
     u_vals: &mut [u32],
@@ -34,11 +30,10 @@ pub fn det(
     l_ptrs: &mut [usize],
     pivots: &mut [u32],
 ) -> Determined
-    ensures { outcome result (lists (memory u_cols.new u_vals.new u_ptrs.new l_cols.new l_vals.new l_ptrs.new pivots.new) dense.new) ≡ Det.det p (matrix nrows ncols row_ptrs.now col_idcs.now values.now) (lists (memory u_cols.old u_vals.old u_ptrs.old l_cols.old l_vals.old l_ptrs.old pivots.old) dense.old) }
+    ensures { outcome result (lists (memory u_cols.new u_vals.new u_ptrs.new l_cols.new l_vals.new l_ptrs.new pivots.new) dense.new) ≡ Det.det p (seen matrix.entry) (lists (memory u_cols.old u_vals.old u_ptrs.old l_cols.old l_vals.old l_ptrs.old pivots.old) dense.old) }
 {
-    let tested = det_test(
-        p, nrows, ncols, row_ptrs, col_idcs, values, dense, u_ptrs, l_ptrs, pivots,
-    );
+    let Matrix { ncols, .. } = matrix;
+    let tested = det_test(p, matrix, dense, u_ptrs, l_ptrs, pivots);
     if let Err(why) = tested {
         return Determined::Refused(why);
     }
@@ -48,11 +43,7 @@ pub fn det(
         true,
         p,
         Mode::Full,
-        nrows,
-        ncols,
-        row_ptrs,
-        col_idcs,
-        values,
+        matrix,
         dense,
         &mut told[..0],
         u_cols,
@@ -69,19 +60,16 @@ pub fn det(
 // 1 to 7 of the rows, 10, 11, and 14 at the fresh start.
 fn det_test(
     p: u32,
-    nrows: u32,
-    ncols: u32,
-    row_ptrs: &[usize],
-    col_idcs: &[u32],
-    values: &[u32],
+    matrix: Matrix,
     dense: &[u32],
     u_ptrs: &[usize],
     l_ptrs: &[usize],
     pivots: &[u32],
 ) -> Result<(), Refusal>
-    ensures { result ≡ Det.det_test p (matrix nrows ncols row_ptrs.now col_idcs.now values.now) dense.now u_ptrs.now l_ptrs.now pivots.now }
+    ensures { result ≡ Det.det_test p (seen matrix.entry) dense.now u_ptrs.now l_ptrs.now pivots.now }
 {
-    try_from_csr_clean(p, nrows, ncols, row_ptrs, col_idcs, values)?;
+    let Matrix { nrows, ncols, .. } = matrix;
+    try_from_csr_clean(p, matrix)?;
     if nrows != ncols {
         return Err(Refusal::NotSquare);
     }

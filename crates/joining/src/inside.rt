@@ -1,6 +1,6 @@
 // What is tested of a matrix and of a vector or a second matrix together, in the table's order.
 ghost use Rattle.std.specs.Prelude.{◌≡◌, ◌≤◌};
-ghost use Rattle.sparse.specs.Matrix.{matrix};
+ghost use Rattle.sparse.specs.Matrix.{seen};
 ghost use Rattle.sparse.specs.Refusals.{lowest};
 ghost use Rattle.joining.specs.Asks.{Adds};
 ghost use Rattle.joining.specs.Joined.{sizes_tests, forms_tests};
@@ -9,7 +9,7 @@ use sparse::inside::{
     Clause, columns_test, modulus_test, rows_test, rows_values_test, shape_test, size_test,
     values_test,
 };
-use sparse::{MAX_ENTRIES, Refusal};
+use sparse::{MAX_ENTRIES, Matrix, Refusal};
 
 // 1, then 2 of both parts and of the result. No sum is formed before its parts are within the limits.
 pub fn sizes_test(
@@ -37,19 +37,22 @@ pub fn sizes_test(
 // 3 to 6 of a matrix and of a vector of length `len`.
 pub fn forms_test(
     p: u32,
-    nrows: u32,
-    ncols: u32,
-    row_ptrs: &[usize],
-    col_idcs: &[u32],
-    values: &[u32],
+    matrix: Matrix,
     len: u32,
     idcs: &[u32],
     nums: &[u32],
 ) -> Result<(), Refusal>
-    requires { nrows ≤ 1024 }
-    ensures { result ≡ lowest (forms_tests p (matrix nrows ncols row_ptrs.now col_idcs.now values.now) len idcs.now nums.now) }
+    requires { matrix.nrows ≤ 1024 }
+    ensures { result ≡ lowest (forms_tests p (seen matrix.entry) len idcs.now nums.now) }
 {
-    shape_test(nrows, ncols, row_ptrs, col_idcs, values)?;
+    let Matrix {
+        nrows,
+        ncols,
+        row_ptrs,
+        col_idcs,
+        values,
+    } = matrix;
+    shape_test(matrix)?;
     if idcs.len() != nums.len() {
         return Err(Refusal::Shape);
     }

@@ -1,7 +1,7 @@
 // Gathering the last column: each index of the vector has a source, a row or nothing.
 ghost use Rattle.std.specs.Prelude.{◌≡◌, ℕ, ◌≤◌, ◌<◌, length, Ok};
 ghost use Rattle.sparse.specs.Lent.{lent_vector, outcome};
-ghost use Rattle.sparse.specs.Matrix.{matrix};
+ghost use Rattle.sparse.specs.Matrix.{seen};
 ghost use Rattle.sparse.specs.Put.{putting_vector};
 ghost use Rattle.sparse.specs.Rows.{entries};
 ghost use Rattle.readers.specs.Asks.{Climbing};
@@ -11,7 +11,7 @@ ghost use Rattle.lasts.specs.Lasts.{in_last};
 
 use pivots::inside::MARK;
 use readers::inside::vector_room_test;
-use sparse::Refusal;
+use sparse::{Matrix, Refusal};
 
 // What the vector is indexed by: rows, rows from the last up, or pivot columns.
 #[derive(Clone, Copy)]
@@ -24,23 +24,17 @@ pub enum Order {
 // The last column in an order, written to lent memory; or 14, decided before anything is written.
 pub fn gather(
     order: Order,
-    nrows: u32,
-    ncols: u32,
-    row_ptrs: &[usize],
-    col_idcs: &[u32],
-    values: &[u32],
+    matrix: Matrix,
     pivots: &[u32],
     out_idcs: &mut [u32],
     out_vals: &mut [u32],
 ) -> Result<usize, Refusal>
-    requires { Sourced order (matrix nrows ncols row_ptrs.now col_idcs.now values.now) pivots.now }
-    ensures { outcome result (lent_vector out_idcs.new out_vals.new) ≡ putting_vector (Ok tt) (gathered order (matrix nrows ncols row_ptrs.now col_idcs.now values.now) pivots.now) (lent_vector out_idcs.old out_vals.old) }
+    requires { Sourced order (seen matrix) pivots.now }
+    ensures { outcome result (lent_vector out_idcs.new out_vals.new) ≡ putting_vector (Ok tt) (gathered order (seen matrix.entry) pivots.now) (lent_vector out_idcs.old out_vals.old) }
 {
-    let entries = count_last(order, nrows, ncols, row_ptrs, col_idcs, values, pivots);
+    let entries = count_last(order, matrix, pivots);
     vector_room_test(entries, out_idcs, out_vals)?;
-    write_last(
-        order, nrows, ncols, row_ptrs, col_idcs, values, pivots, out_idcs, out_vals,
-    );
+    write_last(order, matrix, pivots, out_idcs, out_vals);
     Ok(entries)
 }
 
@@ -84,19 +78,17 @@ fn last_in(ncols: u32, cols: &[u32], vals: &[u32]) -> Option<u32>
 }
 
 // What goes to index k.
-fn last_at(
-    order: Order,
-    nrows: u32,
-    ncols: u32,
-    row_ptrs: &[usize],
-    col_idcs: &[u32],
-    values: &[u32],
-    pivots: &[u32],
-    k: u32,
-) -> Option<u32>
-    requires { At order (matrix nrows ncols row_ptrs.now col_idcs.now values.now) pivots.now k }
-    ensures { held result k ≡ taken_at order (matrix nrows ncols row_ptrs.now col_idcs.now values.now) pivots.now k }
+fn last_at(order: Order, matrix: Matrix, pivots: &[u32], k: u32) -> Option<u32>
+    requires { At order (seen matrix) pivots.now k }
+    ensures { held result k ≡ taken_at order (seen matrix.entry) pivots.now k }
 {
+    let Matrix {
+        nrows,
+        ncols,
+        row_ptrs,
+        col_idcs,
+        values,
+    } = matrix;
     let row = source(order, nrows, pivots, k);
     if row == MARK {
         return None;
@@ -107,22 +99,15 @@ fn last_at(
 }
 
 // How many entries the vector has.
-fn count_last(
-    order: Order,
-    nrows: u32,
-    ncols: u32,
-    row_ptrs: &[usize],
-    col_idcs: &[u32],
-    values: &[u32],
-    pivots: &[u32],
-) -> usize
-    requires { Sourced order (matrix nrows ncols row_ptrs.now col_idcs.now values.now) pivots.now }
-    ensures { result ≡ length (gathered order (matrix nrows ncols row_ptrs.now col_idcs.now values.now) pivots.now) }
+fn count_last(order: Order, matrix: Matrix, pivots: &[u32]) -> usize
+    requires { Sourced order (seen matrix) pivots.now }
+    ensures { result ≡ length (gathered order (seen matrix.entry) pivots.now) }
 {
+    let Matrix { nrows, .. } = matrix;
     let size = indices(order, nrows, pivots);
     let mut found = 0;
     for k in 0..size {
-        let last = last_at(order, nrows, ncols, row_ptrs, col_idcs, values, pivots, k);
+        let last = last_at(order, matrix, pivots, k);
         if let Some(_) = last {
             found += 1;
         }
@@ -133,22 +118,19 @@ fn count_last(
 // Writes the entries, one after the other.
 fn write_last(
     order: Order,
-    nrows: u32,
-    ncols: u32,
-    row_ptrs: &[usize],
-    col_idcs: &[u32],
-    values: &[u32],
+    matrix: Matrix,
     pivots: &[u32],
     out_idcs: &mut [u32],
     out_vals: &mut [u32],
 )
-    requires { Room order (matrix nrows ncols row_ptrs.now col_idcs.now values.now) pivots.now (lent_vector out_idcs.old out_vals.old) }
-    ensures { lent_vector out_idcs.new out_vals.new ≡ put_entries (gathered order (matrix nrows ncols row_ptrs.now col_idcs.now values.now) pivots.now) (lent_vector out_idcs.old out_vals.old) }
+    requires { Room order (seen matrix) pivots.now (lent_vector out_idcs.old out_vals.old) }
+    ensures { lent_vector out_idcs.new out_vals.new ≡ put_entries (gathered order (seen matrix.entry) pivots.now) (lent_vector out_idcs.old out_vals.old) }
 {
+    let Matrix { nrows, .. } = matrix;
     let size = indices(order, nrows, pivots);
     let mut at = 0;
     for k in 0..size {
-        let last = last_at(order, nrows, ncols, row_ptrs, col_idcs, values, pivots, k);
+        let last = last_at(order, matrix, pivots, k);
         if let Some(value) = last {
             out_idcs[at] = k;
             out_vals[at] = value;

@@ -2,7 +2,7 @@
 ghost use Rattle.std.specs.Prelude.{◌≡◌, leb};
 ghost use Rattle.lists.specs.Find.{count};
 ghost use Rattle.sparse.specs.Lent.{lent, outcome};
-ghost use Rattle.sparse.specs.Matrix.{matrix, row};
+ghost use Rattle.sparse.specs.Matrix.{row, seen};
 ghost use Rattle.sparse.specs.Put.{put_rows};
 ghost use Rattle.sparse.specs.Rows.{entries};
 ghost use Rattle.writing.specs.Puts.{put, more};
@@ -11,25 +11,28 @@ ghost use Rattle.moves.specs.Moves.{right_of, take_rev_test, take_rev_right_half
 ghost use Rattle.moves.specs.Parts.{right_rows};
 
 use sparse::inside::{room_test, well_formed};
-use sparse::{MAX_ENTRIES, Refusal};
+use sparse::{MAX_ENTRIES, Matrix, Refusal};
 use writing::inside::put_entry;
 
 // The columns from n/2 on, renumbered from 0, the rows reversed; or the lowest of 1 to 6, 11 and 14 that
 // applies, and the memory as it came.
 pub fn take_rev_right_half(
     p: u32,
-    nrows: u32,
-    ncols: u32,
-    row_ptrs: &[usize],
-    col_idcs: &[u32],
-    values: &[u32],
+    matrix: Matrix,
     out_ptrs: &mut [usize],
     out_cols: &mut [u32],
     out_vals: &mut [u32],
 ) -> Result<usize, Refusal>
-    ensures { outcome result (lent out_ptrs.new out_cols.new out_vals.new) ≡ take_rev_right_half p (matrix nrows ncols row_ptrs.now col_idcs.now values.now) (lent out_ptrs.old out_cols.old out_vals.old) }
+    ensures { outcome result (lent out_ptrs.new out_cols.new out_vals.new) ≡ take_rev_right_half p (seen matrix.entry) (lent out_ptrs.old out_cols.old out_vals.old) }
 {
-    take_rev_test(p, nrows, ncols, row_ptrs, col_idcs, values)?;
+    let Matrix {
+        nrows,
+        ncols,
+        row_ptrs,
+        col_idcs,
+        values,
+    } = matrix;
+    take_rev_test(p, matrix)?;
     let half = ncols / 2;
     let entries = count_from(half, col_idcs);
     room_test(nrows, entries, out_ptrs, out_cols, out_vals)?;
@@ -40,17 +43,11 @@ pub fn take_rev_right_half(
 }
 
 // 1 to 6 of the matrix, and 11.
-fn take_rev_test(
-    p: u32,
-    nrows: u32,
-    ncols: u32,
-    row_ptrs: &[usize],
-    col_idcs: &[u32],
-    values: &[u32],
-) -> Result<(), Refusal>
-    ensures { result ≡ take_rev_test p (matrix nrows ncols row_ptrs.now col_idcs.now values.now) }
+fn take_rev_test(p: u32, matrix: Matrix) -> Result<(), Refusal>
+    ensures { result ≡ take_rev_test p (seen matrix.entry) }
 {
-    well_formed(MAX_ENTRIES, p, nrows, ncols, row_ptrs, col_idcs, values)?;
+    let Matrix { ncols, .. } = matrix;
+    well_formed(MAX_ENTRIES, p, matrix)?;
     if ncols % 2 != 0 {
         return Err(Refusal::Mismatch);
     }

@@ -2,32 +2,30 @@
 ghost use Rattle.std.specs.Prelude.{◌≡◌, not, leb, eqb, length, get_or};
 ghost use Rattle.lists.specs.Find.{any, count};
 ghost use Rattle.pivots.specs.Tables.{table_test};
-ghost use Rattle.sparse.specs.Matrix.{matrix};
+ghost use Rattle.sparse.specs.Matrix.{seen};
 ghost use Rattle.sparse.specs.Pivots.{named, pivots_test};
 ghost use Rattle.sparse.specs.Tests.{size_test};
 
 use sparse::inside::{matrix_test, modulus_test, size_test};
-use sparse::{MAX_ENTRIES, MAX_SIDE, Refusal};
+use sparse::{MAX_ENTRIES, MAX_SIDE, Matrix, Refusal};
 
 // A column without a pivot.
 pub const MARK: u32 = 4294967295;
 
 // 1 to 6 of the matrix, 2 of the table's length, and 12.
-pub fn table_test(
-    p: u32,
-    nrows: u32,
-    ncols: u32,
-    row_ptrs: &[usize],
-    col_idcs: &[u32],
-    values: &[u32],
-    pivots: &[u32],
-) -> Result<(), Refusal>
-    ensures { result ≡ table_test p (matrix nrows ncols row_ptrs.now col_idcs.now values.now) pivots.now }
+pub fn table_test(p: u32, matrix: Matrix, pivots: &[u32]) -> Result<(), Refusal>
+    ensures { result ≡ table_test p (seen matrix.entry) pivots.now }
 {
+    let Matrix {
+        nrows,
+        ncols,
+        values,
+        ..
+    } = matrix;
     modulus_test(p)?;
     size_test(MAX_ENTRIES, nrows, ncols, values.len())?;
     length_test(pivots.len())?;
-    matrix_test(p, nrows, ncols, row_ptrs, col_idcs, values)?;
+    matrix_test(p, matrix)?;
     pivots_test(nrows, pivots)
 }
 

@@ -1,42 +1,37 @@
 // Whether a matrix is the identity; stored zeros count for nothing.
 ghost use Rattle.std.specs.Prelude.{◌≡◌, not, ◌&&◌, cond, eqb, length, get_or};
 ghost use Rattle.lists.specs.Find.{any};
-ghost use Rattle.sparse.specs.Matrix.{matrix, value_in, value_at};
+ghost use Rattle.sparse.specs.Matrix.{value_in, value_at, seen};
 ghost use Rattle.readers.specs.Asks.{Climbing, SquareRow, Square};
 ghost use Rattle.readers.specs.Readers.{is_one};
 
 use sparse::inside::well_formed;
-use sparse::{MAX_ENTRIES, Refusal};
+use sparse::{MAX_ENTRIES, Matrix, Refusal};
 
 // Whether it is 1 on the diagonal and 0 elsewhere; or the lowest of 1 to 6 that applies.
-pub fn is_one(
-    p: u32,
-    nrows: u32,
-    ncols: u32,
-    row_ptrs: &[usize],
-    col_idcs: &[u32],
-    values: &[u32],
-) -> Result<bool, Refusal>
-    ensures { result ≡ is_one p (matrix nrows ncols row_ptrs.now col_idcs.now values.now) }
+pub fn is_one(p: u32, matrix: Matrix) -> Result<bool, Refusal>
+    ensures { result ≡ is_one p (seen matrix.entry) }
 {
-    well_formed(MAX_ENTRIES, p, nrows, ncols, row_ptrs, col_idcs, values)?;
+    let Matrix { nrows, ncols, .. } = matrix;
+    well_formed(MAX_ENTRIES, p, matrix)?;
     if nrows != ncols {
         return Ok(false);
     }
-    Ok(!some_row_off(nrows, ncols, row_ptrs, col_idcs, values))
+    Ok(!some_row_off(matrix))
 }
 
 // Whether some row differs from the identity's.
-fn some_row_off(
-    nrows: u32,
-    ncols: u32,
-    row_ptrs: &[usize],
-    col_idcs: &[u32],
-    values: &[u32],
-) -> bool
-    requires { Square (matrix nrows ncols row_ptrs.now col_idcs.now values.now) }
-    ensures { result ≡ any nrows (λ i. any ncols (λ j. not (eqb (value_at (matrix nrows ncols row_ptrs.now col_idcs.now values.now) i j) (cond (eqb i j) 1 0)))) }
+fn some_row_off(matrix: Matrix) -> bool
+    requires { Square (seen matrix) }
+    ensures { result ≡ any matrix.entry.nrows (λ i. any matrix.entry.ncols (λ j. not (eqb (value_at (seen matrix.entry) i j) (cond (eqb i j) 1 0)))) }
 {
+    let Matrix {
+        nrows,
+        ncols,
+        row_ptrs,
+        col_idcs,
+        values,
+    } = matrix;
     for row in 0..nrows {
         let start = row_ptrs[row as usize];
         let stop = row_ptrs[row as usize + 1];

@@ -15,7 +15,7 @@ use market::tests::market_test;
 use reporting::lines::put_report;
 use reporting::load::load;
 use solving::solve::solve;
-use sparse::Refusal;
+use sparse::{Matrix, Refusal};
 
 // Loads the matrix, solves it and writes the output.
 fn told(
@@ -45,11 +45,13 @@ fn told(
     let many = size.value as usize;
     let solved = solve(
         MODULUS,
-        size.row as u32,
-        size.col as u32,
-        &row_ptrs[..stop],
-        &col_idcs[..many],
-        &values[..many],
+        Matrix {
+            nrows: size.row as u32,
+            ncols: size.col as u32,
+            row_ptrs: &row_ptrs[..stop],
+            col_idcs: &col_idcs[..many],
+            values: &values[..many],
+        },
         dense,
         answers,
         u_cols,

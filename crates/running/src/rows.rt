@@ -1,7 +1,7 @@
 // Rows taken one after another.
 ghost use Rattle.std.specs.Prelude.{◌≡◌};
 ghost use Rattle.sparse.specs.Lent.{outcome};
-ghost use Rattle.sparse.specs.Matrix.{matrix};
+ghost use Rattle.sparse.specs.Matrix.{seen};
 ghost use Rattle.sparse.specs.Rows.{entries, rows_of, row_at};
 ghost use Rattle.state.specs.Memory.{memory};
 ghost use Rattle.stepping.specs.Take.{lists};
@@ -11,7 +11,7 @@ ghost use Rattle.running.specs.Rows.{written, night, next_row, take_rows};
 ghost use Rattle.telling.specs.Runs.{run};
 ghost use Rattle.telling.specs.declared.Reduced.TheVariants.{Taken};
 
-use sparse::Refusal;
+use sparse::{Matrix, Refusal};
 use state::Counts;
 use stepping::Stepped;
 use stepping::rows::{room_asked, step_row};
@@ -23,11 +23,7 @@ pub fn take_rows(
     on: bool,
     check: bool,
     counts: Counts,
-    nrows: u32,
-    ncols: u32,
-    row_ptrs: &[usize],
-    col_idcs: &[u32],
-    values: &[u32],
+    matrix: Matrix,
     dense: &mut [u32],
     answers: &mut [u32],
     u_cols: &mut [u32],
@@ -38,14 +34,15 @@ pub fn take_rows(
     l_ptrs: &mut [usize],
     pivots: &mut [u32],
 ) -> Reduced
-    requires { Goes counts (matrix nrows ncols row_ptrs.now col_idcs.now values.now) (night (memory u_cols.old u_vals.old u_ptrs.old l_cols.old l_vals.old l_ptrs.old pivots.old) answers.old dense.old) }
-    ensures { outcome (outcome result (written (memory u_cols.new u_vals.new u_ptrs.new l_cols.new l_vals.new l_ptrs.new pivots.new) answers.new)) dense.new ≡ outcome (take_rows on check (rows_of (matrix nrows ncols row_ptrs.now col_idcs.now values.now)) (outcome (Taken (run 0 counts)) (written (memory u_cols.old u_vals.old u_ptrs.old l_cols.old l_vals.old l_ptrs.old pivots.old) answers.old))) dense.old }
+    requires { Goes counts (seen matrix) (night (memory u_cols.old u_vals.old u_ptrs.old l_cols.old l_vals.old l_ptrs.old pivots.old) answers.old dense.old) }
+    ensures { outcome (outcome result (written (memory u_cols.new u_vals.new u_ptrs.new l_cols.new l_vals.new l_ptrs.new pivots.new) answers.new)) dense.new ≡ outcome (take_rows on check (rows_of (seen matrix.entry)) (outcome (Taken (run 0 counts)) (written (memory u_cols.old u_vals.old u_ptrs.old l_cols.old l_vals.old l_ptrs.old pivots.old) answers.old))) dense.old }
 {
+    let Matrix { nrows, .. } = matrix;
     let mut run = Run { taken: 0, counts };
     for _ in 0..nrows {
         let next = next_row(
-            on, check, run, nrows, ncols, row_ptrs, col_idcs, values, dense, answers, u_cols,
-            u_vals, u_ptrs, l_cols, l_vals, l_ptrs, pivots,
+            on, check, run, matrix, dense, answers, u_cols, u_vals, u_ptrs, l_cols, l_vals, l_ptrs,
+            pivots,
         );
         let Reduced::Taken(more) = next else {
             return next;
@@ -60,11 +57,7 @@ fn next_row(
     on: bool,
     check: bool,
     run: Run,
-    nrows: u32,
-    ncols: u32,
-    row_ptrs: &[usize],
-    col_idcs: &[u32],
-    values: &[u32],
+    matrix: Matrix,
     dense: &mut [u32],
     answers: &mut [u32],
     u_cols: &mut [u32],
@@ -75,9 +68,15 @@ fn next_row(
     l_ptrs: &mut [usize],
     pivots: &mut [u32],
 ) -> Reduced
-    requires { GoesOn run (matrix nrows ncols row_ptrs.now col_idcs.now values.now) (night (memory u_cols.old u_vals.old u_ptrs.old l_cols.old l_vals.old l_ptrs.old pivots.old) answers.old dense.old) }
-    ensures { outcome (outcome result (written (memory u_cols.new u_vals.new u_ptrs.new l_cols.new l_vals.new l_ptrs.new pivots.new) answers.new)) dense.new ≡ outcome (next_row on check (row_at (matrix nrows ncols row_ptrs.now col_idcs.now values.now) run.taken) run (written (memory u_cols.old u_vals.old u_ptrs.old l_cols.old l_vals.old l_ptrs.old pivots.old) answers.old)) dense.old }
+    requires { GoesOn run (seen matrix) (night (memory u_cols.old u_vals.old u_ptrs.old l_cols.old l_vals.old l_ptrs.old pivots.old) answers.old dense.old) }
+    ensures { outcome (outcome result (written (memory u_cols.new u_vals.new u_ptrs.new l_cols.new l_vals.new l_ptrs.new pivots.new) answers.new)) dense.new ≡ outcome (next_row on check (row_at (seen matrix.entry) run.taken) run (written (memory u_cols.old u_vals.old u_ptrs.old l_cols.old l_vals.old l_ptrs.old pivots.old) answers.old)) dense.old }
 {
+    let Matrix {
+        row_ptrs,
+        col_idcs,
+        values,
+        ..
+    } = matrix;
     let taken = run.taken as usize;
     let counts = run.counts;
     let start = row_ptrs[taken];

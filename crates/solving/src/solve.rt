@@ -1,7 +1,7 @@
 // A matrix reduced twice: for its determinant, and from a fresh start for its rank and U.
 ghost use Rattle.std.specs.Prelude.{◌≡◌, false};
 ghost use Rattle.sparse.specs.Lent.{outcome};
-ghost use Rattle.sparse.specs.Matrix.{matrix};
+ghost use Rattle.sparse.specs.Matrix.{seen};
 ghost use Rattle.state.specs.Memory.{memory};
 ghost use Rattle.stepping.specs.Take.{lists};
 ghost use Rattle.running.specs.Rows.{night};
@@ -11,6 +11,7 @@ ghost use Rattle.solving.specs.Solve;
 use crate::Solved;
 use anew::from_matrix;
 use determinant::{Determined, det};
+use sparse::Matrix;
 use state::{Counts, Mode};
 use telling::Reduced;
 
@@ -28,11 +29,7 @@ fn worth_of(determined: Determined) -> Option<u32>
 // The determinant of a square matrix; the lists are left as its reduction leaves them.
 pub fn worth(
     p: u32,
-    nrows: u32,
-    ncols: u32,
-    row_ptrs: &[usize],
-    col_idcs: &[u32],
-    values: &[u32],
+    matrix: Matrix,
     dense: &mut [u32],
     u_cols: &mut [u32],
     u_vals: &mut [u32],
@@ -42,14 +39,14 @@ pub fn worth(
     l_ptrs: &mut [usize],
     pivots: &mut [u32],
 ) -> Option<u32>
-    ensures { outcome result (lists (memory u_cols.new u_vals.new u_ptrs.new l_cols.new l_vals.new l_ptrs.new pivots.new) dense.new) ≡ Solve.worth p (matrix nrows ncols row_ptrs.now col_idcs.now values.now) (lists (memory u_cols.old u_vals.old u_ptrs.old l_cols.old l_vals.old l_ptrs.old pivots.old) dense.old) }
+    ensures { outcome result (lists (memory u_cols.new u_vals.new u_ptrs.new l_cols.new l_vals.new l_ptrs.new pivots.new) dense.new) ≡ Solve.worth p (seen matrix.entry) (lists (memory u_cols.old u_vals.old u_ptrs.old l_cols.old l_vals.old l_ptrs.old pivots.old) dense.old) }
 {
+    let Matrix { nrows, ncols, .. } = matrix;
     if nrows != ncols {
         return None;
     }
     let determined = det(
-        p, nrows, ncols, row_ptrs, col_idcs, values, dense, u_cols, u_vals, u_ptrs, l_cols, l_vals,
-        l_ptrs, pivots,
+        p, matrix, dense, u_cols, u_vals, u_ptrs, l_cols, l_vals, l_ptrs, pivots,
     );
     worth_of(determined)
 }
@@ -77,11 +74,7 @@ fn counts_after(p: u32, ncols: u32, reduced: Reduced) -> Counts
 // The rows from a fresh start, by the first walk; nothing is kept of L.
 fn afresh(
     p: u32,
-    nrows: u32,
-    ncols: u32,
-    row_ptrs: &[usize],
-    col_idcs: &[u32],
-    values: &[u32],
+    matrix: Matrix,
     dense: &mut [u32],
     answers: &mut [u32],
     u_cols: &mut [u32],
@@ -92,16 +85,12 @@ fn afresh(
     l_ptrs: &mut [usize],
     pivots: &mut [u32],
 ) -> Reduced
-    ensures { outcome result (night (memory u_cols.new u_vals.new u_ptrs.new l_cols.new l_vals.new l_ptrs.new pivots.new) answers.new dense.new) ≡ from_matrix false false p Mode.None (matrix nrows ncols row_ptrs.now col_idcs.now values.now) (night (memory u_cols.old u_vals.old u_ptrs.old l_cols.old l_vals.old l_ptrs.old pivots.old) answers.old dense.old) }
+    ensures { outcome result (night (memory u_cols.new u_vals.new u_ptrs.new l_cols.new l_vals.new l_ptrs.new pivots.new) answers.new dense.new) ≡ from_matrix false false p Mode.None (seen matrix.entry) (night (memory u_cols.old u_vals.old u_ptrs.old l_cols.old l_vals.old l_ptrs.old pivots.old) answers.old dense.old) }
 {
     from_matrix(
         p,
         Mode::None,
-        nrows,
-        ncols,
-        row_ptrs,
-        col_idcs,
-        values,
+        matrix,
         dense,
         answers,
         u_cols,
@@ -117,11 +106,7 @@ fn afresh(
 // The determinant, and then the counts of a reduction from a fresh start, whose U is in the lists.
 pub fn solve(
     p: u32,
-    nrows: u32,
-    ncols: u32,
-    row_ptrs: &[usize],
-    col_idcs: &[u32],
-    values: &[u32],
+    matrix: Matrix,
     dense: &mut [u32],
     answers: &mut [u32],
     u_cols: &mut [u32],
@@ -132,15 +117,14 @@ pub fn solve(
     l_ptrs: &mut [usize],
     pivots: &mut [u32],
 ) -> Solved
-    ensures { outcome result (night (memory u_cols.new u_vals.new u_ptrs.new l_cols.new l_vals.new l_ptrs.new pivots.new) answers.new dense.new) ≡ Solve.solve p (matrix nrows ncols row_ptrs.now col_idcs.now values.now) (night (memory u_cols.old u_vals.old u_ptrs.old l_cols.old l_vals.old l_ptrs.old pivots.old) answers.old dense.old) }
+    ensures { outcome result (night (memory u_cols.new u_vals.new u_ptrs.new l_cols.new l_vals.new l_ptrs.new pivots.new) answers.new dense.new) ≡ Solve.solve p (seen matrix.entry) (night (memory u_cols.old u_vals.old u_ptrs.old l_cols.old l_vals.old l_ptrs.old pivots.old) answers.old dense.old) }
 {
+    let Matrix { ncols, .. } = matrix;
     let det = worth(
-        p, nrows, ncols, row_ptrs, col_idcs, values, dense, u_cols, u_vals, u_ptrs, l_cols, l_vals,
-        l_ptrs, pivots,
+        p, matrix, dense, u_cols, u_vals, u_ptrs, l_cols, l_vals, l_ptrs, pivots,
     );
     let reduced = afresh(
-        p, nrows, ncols, row_ptrs, col_idcs, values, dense, answers, u_cols, u_vals, u_ptrs,
-        l_cols, l_vals, l_ptrs, pivots,
+        p, matrix, dense, answers, u_cols, u_vals, u_ptrs, l_cols, l_vals, l_ptrs, pivots,
     );
     Solved {
         det,

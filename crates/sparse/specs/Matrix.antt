@@ -1,5 +1,6 @@
 -- Compressed rows, as they are lent, and what they mean.
 use Rattle.std.specs.Prelude.{ℕ, ◌+◌, ◌-◌, cond, List, eqb, length, get_or, take, drop}
+use Rattle.sparse.specs.declared.Matrix.{Matrix as Compressed}
 use Rattle.lists.specs.Sum.{Σ}
 
 -- a matrix as it is lent
@@ -12,6 +13,10 @@ pub record Matrix : Type 0 where
 
 abbrev pub matrix : ℕ → ℕ → List ℕ → List ℕ → List ℕ → Matrix
 matrix n m ptrs cols vals = record { nrows = n; ncols = m; row_ptrs = ptrs; col_idcs = cols; values = vals }
+
+-- a matrix over lent slices as what it holds
+abbrev pub seen : Compressed → Matrix
+seen m = matrix m.nrows m.ncols m.row_ptrs.now m.col_idcs.now m.values.now
 
 -- the elements from a up to b
 unfoldable pub part {ℓ} : {A : Type ℓ} → ℕ → ℕ → List A → List A

@@ -4,10 +4,10 @@ ghost use Rattle.std.specs.Prelude.{◌≡◌, ◌≤◌, ◌<◌, length};
 ghost use Rattle.lists.specs.Onto.{◌onto◌};
 ghost use Rattle.sparse.specs.Asks.{Pointers, Cut};
 ghost use Rattle.sparse.specs.Lent.{lent, room_test};
-ghost use Rattle.sparse.specs.Matrix.{matrix};
+ghost use Rattle.sparse.specs.Matrix.{seen};
 ghost use Rattle.sparse.specs.Tests.{modulus_test, size_test, shape_test, column_test, columns_test, row_test, rows_test, value_test, values_test, rows_values_test, matrix_test, well_formed, clean};
 
-use crate::{MAX_SIDE, Refusal};
+use crate::{MAX_SIDE, Matrix, Refusal};
 use field::prime::is_modulus;
 
 // What 6 and 7 ask of a value.
@@ -44,16 +44,17 @@ pub fn size_test(limit: usize, nrows: u32, ncols: u32, entries: usize) -> Result
 }
 
 // 3: as many columns as values; a pointer for each row and one more, from 0 to the value count.
-pub fn shape_test(
-    nrows: u32,
-    ncols: u32,
-    row_ptrs: &[usize],
-    col_idcs: &[u32],
-    values: &[u32],
-) -> Result<(), Refusal>
-    requires { nrows ≤ 1024 }
-    ensures { result ≡ shape_test (matrix nrows ncols row_ptrs.now col_idcs.now values.now) }
+pub fn shape_test(matrix: Matrix) -> Result<(), Refusal>
+    requires { matrix.nrows ≤ 1024 }
+    ensures { result ≡ shape_test (seen matrix.entry) }
 {
+    let Matrix {
+        nrows,
+        row_ptrs,
+        col_idcs,
+        values,
+        ..
+    } = matrix;
     if col_idcs.len() != values.len() {
         return Err(Refusal::Shape);
     }
@@ -177,52 +178,48 @@ pub fn rows_values_test(
 }
 
 // 3 to 6.
-pub fn matrix_test(
-    p: u32,
-    nrows: u32,
-    ncols: u32,
-    row_ptrs: &[usize],
-    col_idcs: &[u32],
-    values: &[u32],
-) -> Result<(), Refusal>
-    requires { nrows ≤ 1024 }
-    ensures { result ≡ matrix_test p (matrix nrows ncols row_ptrs.now col_idcs.now values.now) }
+pub fn matrix_test(p: u32, matrix: Matrix) -> Result<(), Refusal>
+    requires { matrix.nrows ≤ 1024 }
+    ensures { result ≡ matrix_test p (seen matrix.entry) }
 {
-    shape_test(nrows, ncols, row_ptrs, col_idcs, values)?;
+    let Matrix {
+        nrows,
+        ncols,
+        row_ptrs,
+        col_idcs,
+        values,
+    } = matrix;
+    shape_test(matrix)?;
     rows_test(nrows, ncols, row_ptrs, col_idcs)?;
     rows_values_test(Clause::Residue, p, nrows, row_ptrs, values)
 }
 
 // 1 to 6, with at most `limit` entries.
-pub fn well_formed(
-    limit: usize,
-    p: u32,
-    nrows: u32,
-    ncols: u32,
-    row_ptrs: &[usize],
-    col_idcs: &[u32],
-    values: &[u32],
-) -> Result<(), Refusal>
-    ensures { result ≡ well_formed limit p (matrix nrows ncols row_ptrs.now col_idcs.now values.now) }
+pub fn well_formed(limit: usize, p: u32, matrix: Matrix) -> Result<(), Refusal>
+    ensures { result ≡ well_formed limit p (seen matrix.entry) }
 {
+    let Matrix {
+        nrows,
+        ncols,
+        values,
+        ..
+    } = matrix;
     modulus_test(p)?;
     size_test(limit, nrows, ncols, values.len())?;
-    matrix_test(p, nrows, ncols, row_ptrs, col_idcs, values)
+    matrix_test(p, matrix)
 }
 
 // 1 to 7, with at most `limit` entries.
-pub fn clean_rows(
-    limit: usize,
-    p: u32,
-    nrows: u32,
-    ncols: u32,
-    row_ptrs: &[usize],
-    col_idcs: &[u32],
-    values: &[u32],
-) -> Result<(), Refusal>
-    ensures { result ≡ clean limit p (matrix nrows ncols row_ptrs.now col_idcs.now values.now) }
+pub fn clean_rows(limit: usize, p: u32, matrix: Matrix) -> Result<(), Refusal>
+    ensures { result ≡ clean limit p (seen matrix.entry) }
 {
-    well_formed(limit, p, nrows, ncols, row_ptrs, col_idcs, values)?;
+    let Matrix {
+        nrows,
+        row_ptrs,
+        values,
+        ..
+    } = matrix;
+    well_formed(limit, p, matrix)?;
     rows_values_test(Clause::Nonzero, p, nrows, row_ptrs, values)
 }
 

@@ -1,7 +1,6 @@
 // Compressed matrices and vectors over lent slices, and their tests.
 //
-// A matrix is (nrows, ncols, row_ptrs, col_idcs, values): row i has the entries from row_ptrs[i] up
-// to row_ptrs[i + 1]. A vector is (len, idcs, values). The modulus p stands first in every call.
+// A matrix is a `Matrix`, a vector (len, idcs, values). The modulus p stands first in every call.
 #![tactic(auto)]
 
 ghost use Rattle.std.specs.Prelude.{◌≡◌};
@@ -20,6 +19,16 @@ pub const MAX_SIDE: u32 = 1024;
 
 // The most entries of a matrix or vector.
 pub const MAX_ENTRIES: usize = 65536;
+
+// A matrix over lent slices: row i has the entries from row_ptrs[i] up to row_ptrs[i + 1].
+#[derive(Clone, Copy)]
+pub struct Matrix<'a> {
+    pub nrows: u32,
+    pub ncols: u32,
+    pub row_ptrs: &'a [usize],
+    pub col_idcs: &'a [u32],
+    pub values: &'a [u32],
+}
 
 // Why a call is refused, by its number in the table: of several the lowest is given.
 #[derive(Clone, Copy, Debug, PartialEq, Eq)]

@@ -7,8 +7,8 @@ ghost use Rattle.state.specs.State.{headless, misplaced, u_fault, u_lost, u_rows
 
 use crate::inside::places;
 use pivots::inside::MARK;
-use sparse::MAX_SIDE;
 use sparse::inside::{Clause, matrix_test, rows_values_test};
+use sparse::{MAX_SIDE, Matrix};
 
 // Whether the lists aren't those of a U: so many rows and entries, and the pivot table of its heads.
 pub fn u_unsound(
@@ -69,7 +69,18 @@ fn u_fault(
     requires { Sized p (matrix nrows ncols ptrs.now cols.now vals.now) pivots.now }
     ensures { result ≡ u_fault p (matrix nrows ncols ptrs.now cols.now vals.now) pivots.now }
 {
-    if matrix_test(p, nrows, ncols, ptrs, cols, vals).is_err() {
+    if matrix_test(
+        p,
+        Matrix {
+            nrows,
+            ncols,
+            row_ptrs: ptrs,
+            col_idcs: cols,
+            values: vals,
+        },
+    )
+    .is_err()
+    {
         return true;
     }
     if rows_values_test(Clause::Nonzero, p, nrows, ptrs, vals).is_err() {

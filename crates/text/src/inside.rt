@@ -2,7 +2,7 @@
 // text is counted and not stored, so that writing to no memory tells how long the text will be.
 ghost use Rattle.std.specs.Prelude.{◌≡◌, ltb, length};
 ghost use mathlib.Core.List.{[], ◌∷◌, flatten};
-ghost use Rattle.sparse.specs.Matrix.{part, matrix};
+ghost use Rattle.sparse.specs.Matrix.{part, seen};
 ghost use Rattle.sparse.specs.Refusals.{refuse};
 ghost use Rattle.sparse.specs.Rows.{entries};
 ghost use Rattle.text.specs.Asks.{Reach, LineAt, RowsAt};
@@ -10,7 +10,7 @@ ghost use Rattle.text.specs.Decimals.{decimal};
 ghost use Rattle.text.specs.Mma.{piece, matrix_text, vector_text};
 ghost use Rattle.text.specs.Writers.{Wrote, placed, pieces, row_pieces, link, links, ending};
 
-use sparse::Refusal;
+use sparse::{Matrix, Refusal};
 
 // Entries that have the row in common, or the column.
 #[derive(Clone, Copy)]
@@ -158,17 +158,17 @@ pub fn put_ending(rows: u32, cols: u32, at: usize, text: &mut [u8]) -> usize
 }
 
 // A whole matrix: two bytes before the pieces, and at most 46 after them.
-pub fn put_matrix(
-    nrows: u32,
-    ncols: u32,
-    row_ptrs: &[usize],
-    col_idcs: &[u32],
-    values: &[u32],
-    text: &mut [u8],
-) -> usize
-    requires { RowsAt nrows row_ptrs.now col_idcs.now values.now 48 }
-    ensures { Wrote (matrix_text (matrix nrows ncols row_ptrs.now col_idcs.now values.now)) 0 text.old result text.new }
+pub fn put_matrix(matrix: Matrix, text: &mut [u8]) -> usize
+    requires { RowsAt matrix.nrows matrix.row_ptrs.now matrix.col_idcs.now matrix.values.now 48 }
+    ensures { Wrote (matrix_text (seen matrix.entry)) 0 text.old result text.new }
 {
+    let Matrix {
+        nrows,
+        ncols,
+        row_ptrs,
+        col_idcs,
+        values,
+    } = matrix;
     let first = put_bytes(b"{{", 0, text);
     let end = put_rows(nrows, row_ptrs, col_idcs, values, first, text);
     put_ending(nrows, ncols, end, text)

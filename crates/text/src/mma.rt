@@ -2,28 +2,20 @@
 // before anything is written.
 ghost use Rattle.std.specs.Prelude.{◌≡◌};
 ghost use Rattle.sparse.specs.Lent.{outcome};
-ghost use Rattle.sparse.specs.Matrix.{matrix};
+ghost use Rattle.sparse.specs.Matrix.{seen};
 ghost use Rattle.text.specs.Mma.{fmt_mma, fmt_mma_vector};
 
 use crate::inside::{put_matrix, put_vector, room_test};
-use sparse::{Refusal, try_from_csr, try_from_csr_vector};
+use sparse::{Matrix, Refusal, try_from_csr, try_from_csr_vector};
 
 // {{{row,column}->value,..},{rows,columns}}, counting from 1.
-pub fn fmt_mma(
-    p: u32,
-    nrows: u32,
-    ncols: u32,
-    row_ptrs: &[usize],
-    col_idcs: &[u32],
-    values: &[u32],
-    text: &mut [u8],
-) -> Result<usize, Refusal>
-    ensures { outcome result text.new ≡ fmt_mma p (matrix nrows ncols row_ptrs.now col_idcs.now values.now) text.old }
+pub fn fmt_mma(p: u32, matrix: Matrix, text: &mut [u8]) -> Result<usize, Refusal>
+    ensures { outcome result text.new ≡ fmt_mma p (seen matrix.entry) text.old }
 {
-    try_from_csr(p, nrows, ncols, row_ptrs, col_idcs, values)?;
-    let bytes = put_matrix(nrows, ncols, row_ptrs, col_idcs, values, &mut text[..0]);
+    try_from_csr(p, matrix)?;
+    let bytes = put_matrix(matrix, &mut text[..0]);
     room_test(bytes, text.len())?;
-    put_matrix(nrows, ncols, row_ptrs, col_idcs, values, text);
+    put_matrix(matrix, text);
     Ok(bytes)
 }
 

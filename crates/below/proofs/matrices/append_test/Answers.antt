@@ -21,7 +21,7 @@ returns-in_err-both_test c = rw (handed c.from_residual-in_err-both_test.ensures
 
 pub returns-then-ncols-more_ncols : goal.returns-then-ncols-more_ncols
 unfolding refuse
-returns-then-ncols-more_ncols c = first_next _ _ c.sizes_test.ensures c.in_ok-sizes_test.was (first_next _ _ c.both_test.ensures c.in_ok-both_test.was (lowest_last (rw (ne_eqb c.args.ncols c.args.more_ncols (λ e. omega (arith, c.if-ncols-more_ncols.true)))))) ∙ sym (append-tests _ _ _)
+returns-then-ncols-more_ncols c = first_next _ _ c.sizes_test.ensures c.in_ok-sizes_test.was (first_next _ _ c.both_test.ensures c.in_ok-both_test.was (lowest_last (rw (ne_eqb c.args.matrix.ncols c.args.other.ncols (λ e. omega (arith, c.if-ncols-more_ncols.true)))))) ∙ sym (append-tests _ _ _)
 
 pub returns : goal.returns
 unfolding refuse

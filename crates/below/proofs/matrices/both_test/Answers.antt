@@ -4,7 +4,7 @@ use Rattle.std.specs.Prelude.{Ok}
 use mathlib.Core.Path.{◌≡◌, sym, ap₂, ◌∙◌}
 use native.Mathlib.Omega.{arith}
 use lib.ListN.{drop}
-use Rattle.sparse.specs.Matrix.{Matrix, matrix}
+use Rattle.sparse.specs.Matrix.{Matrix, seen}
 use Rattle.sparse.specs.Refusals.{lowest, Tested}
 use Rattle.sparse.specs.Tests.{shape_test, rows_test}
 use Rattle.sparse.proofs.Cuts.{pointers, cut}
@@ -18,32 +18,32 @@ use Rattle.below.proofs.matrices.both_test.Goals.{After-lower_of, In_ok-shape_te
 abbrev rows_of : Matrix → Tested
 rows_of m = rows_test m.nrows m.ncols m.row_ptrs m.col_idcs
 
-one_shaped : (c : In_ok-shape_test) → shape_test (matrix c.args.nrows c.args.ncols c.args.row_ptrs.now c.args.col_idcs.now c.args.values.now) ≡ Ok tt
+one_shaped : (c : In_ok-shape_test) → shape_test (seen c.args.matrix) ≡ Ok tt
 one_shaped c = sym c.shape_test.ensures ∙ c.in_ok-shape_test.was
 
-two_shaped : (c : In_ok-shape_test-2) → shape_test (matrix c.args.more_nrows c.args.more_ncols c.args.more_ptrs.now c.args.more_cols.now c.args.more_values.now) ≡ Ok tt
+two_shaped : (c : In_ok-shape_test-2) → shape_test (seen c.args.other) ≡ Ok tt
 two_shaped c = sym c.shape_test-2.ensures ∙ c.in_ok-shape_test-2.was
 
-found : (c : After-lower_of) → c.lower_of.result ≡ lower (rows_of (matrix c.args.nrows c.args.ncols c.args.row_ptrs.now c.args.col_idcs.now c.args.values.now)) (rows_of (matrix c.args.more_nrows c.args.more_ncols c.args.more_ptrs.now c.args.more_cols.now c.args.more_values.now))
+found : (c : After-lower_of) → c.lower_of.result ≡ lower (rows_of (seen c.args.matrix)) (rows_of (seen c.args.other))
 found c = c.lower_of.ensures ∙ ap₂ lower c.rows_test-one.ensures c.rows_test-two.ensures
 
-lined : (c : In_ok-lower_of) → (rows_of (matrix c.args.nrows c.args.ncols c.args.row_ptrs.now c.args.col_idcs.now c.args.values.now) ≡ Ok tt) × (rows_of (matrix c.args.more_nrows c.args.more_ncols c.args.more_ptrs.now c.args.more_cols.now c.args.more_values.now) ≡ Ok tt)
+lined : (c : In_ok-lower_of) → (rows_of (seen c.args.matrix) ≡ Ok tt) × (rows_of (seen c.args.other) ≡ Ok tt)
 lined c = lower_good _ _ (sym (c.lower_of.ensures ∙ ap₂ lower c.rows_test-one.ensures c.rows_test-two.ensures) ∙ c.in_ok-lower_of.was)
 
 -- after each test that found nothing, the rest decides
-past_one : (c : In_ok-shape_test) {x : Tested} → x ≡ lowest (drop 1 (both_tests c.args.p (matrix c.args.nrows c.args.ncols c.args.row_ptrs.now c.args.col_idcs.now c.args.values.now) (matrix c.args.more_nrows c.args.more_ncols c.args.more_ptrs.now c.args.more_cols.now c.args.more_values.now))) → x ≡ lowest (both_tests c.args.p (matrix c.args.nrows c.args.ncols c.args.row_ptrs.now c.args.col_idcs.now c.args.values.now) (matrix c.args.more_nrows c.args.more_ncols c.args.more_ptrs.now c.args.more_cols.now c.args.more_values.now))
+past_one : (c : In_ok-shape_test) {x : Tested} → x ≡ lowest (drop 1 (both_tests c.args.p (seen c.args.matrix) (seen c.args.other))) → x ≡ lowest (both_tests c.args.p (seen c.args.matrix) (seen c.args.other))
 unfolding both_tests
 past_one c h = lowest_next _ c.shape_test.ensures c.in_ok-shape_test.was h
 
-past_two : (c : In_ok-shape_test-2) {x : Tested} → x ≡ lowest (drop 2 (both_tests c.args.p (matrix c.args.nrows c.args.ncols c.args.row_ptrs.now c.args.col_idcs.now c.args.values.now) (matrix c.args.more_nrows c.args.more_ncols c.args.more_ptrs.now c.args.more_cols.now c.args.more_values.now))) → x ≡ lowest (both_tests c.args.p (matrix c.args.nrows c.args.ncols c.args.row_ptrs.now c.args.col_idcs.now c.args.values.now) (matrix c.args.more_nrows c.args.more_ncols c.args.more_ptrs.now c.args.more_cols.now c.args.more_values.now))
+past_two : (c : In_ok-shape_test-2) {x : Tested} → x ≡ lowest (drop 2 (both_tests c.args.p (seen c.args.matrix) (seen c.args.other))) → x ≡ lowest (both_tests c.args.p (seen c.args.matrix) (seen c.args.other))
 unfolding both_tests
 past_two c h = (lowest_next _ c.shape_test.ensures c.in_ok-shape_test.was (lowest_next _ c.shape_test-2.ensures c.in_ok-shape_test-2.was h))
 
-past_rows : (c : In_ok-lower_of) {x : Tested} → x ≡ lowest (drop 3 (both_tests c.args.p (matrix c.args.nrows c.args.ncols c.args.row_ptrs.now c.args.col_idcs.now c.args.values.now) (matrix c.args.more_nrows c.args.more_ncols c.args.more_ptrs.now c.args.more_cols.now c.args.more_values.now))) → x ≡ lowest (both_tests c.args.p (matrix c.args.nrows c.args.ncols c.args.row_ptrs.now c.args.col_idcs.now c.args.values.now) (matrix c.args.more_nrows c.args.more_ncols c.args.more_ptrs.now c.args.more_cols.now c.args.more_values.now))
+past_rows : (c : In_ok-lower_of) {x : Tested} → x ≡ lowest (drop 3 (both_tests c.args.p (seen c.args.matrix) (seen c.args.other))) → x ≡ lowest (both_tests c.args.p (seen c.args.matrix) (seen c.args.other))
 unfolding both_tests
 past_rows c h = (lowest_next _ c.shape_test.ensures c.in_ok-shape_test.was (lowest_next _ c.shape_test-2.ensures c.in_ok-shape_test-2.was (lowest_next _ (c.lower_of.ensures ∙ ap₂ lower c.rows_test-one.ensures c.rows_test-two.ensures) c.in_ok-lower_of.was h)))
 
-past_residues : (c : In_ok-rows_values_test) {x : Tested} → x ≡ lowest (drop 4 (both_tests c.args.p (matrix c.args.nrows c.args.ncols c.args.row_ptrs.now c.args.col_idcs.now c.args.values.now) (matrix c.args.more_nrows c.args.more_ncols c.args.more_ptrs.now c.args.more_cols.now c.args.more_values.now))) → x ≡ lowest (both_tests c.args.p (matrix c.args.nrows c.args.ncols c.args.row_ptrs.now c.args.col_idcs.now c.args.values.now) (matrix c.args.more_nrows c.args.more_ncols c.args.more_ptrs.now c.args.more_cols.now c.args.more_values.now))
+past_residues : (c : In_ok-rows_values_test) {x : Tested} → x ≡ lowest (drop 4 (both_tests c.args.p (seen c.args.matrix) (seen c.args.other))) → x ≡ lowest (both_tests c.args.p (seen c.args.matrix) (seen c.args.other))
 unfolding both_tests
 past_residues c h = (lowest_next _ c.shape_test.ensures c.in_ok-shape_test.was (lowest_next _ c.shape_test-2.ensures c.in_ok-shape_test-2.was (lowest_next _ (c.lower_of.ensures ∙ ap₂ lower c.rows_test-one.ensures c.rows_test-two.ensures) c.in_ok-lower_of.was (lowest_next _ c.rows_values_test.ensures c.in_ok-rows_values_test.was h))))
 

@@ -3,14 +3,14 @@
 use Rattle.sparse.proofs.Firsts.{handed}
 use Rattle.std.specs.Prelude.{Ok}
 use mathlib.Core.Path.{◌≡◌, sym, ◌∙◌}
-use Rattle.sparse.specs.Matrix.{matrix}
+use Rattle.sparse.specs.Matrix.{seen}
 use Rattle.writing.proofs.Puttings.{put_refused, put_no_room, put_made}
 use Rattle.beside.specs.Beside.{append_col, append_col_test}
 use Rattle.beside.proofs.Passed.{col_sized, col_fits}
 use Rattle.beside.proofs.column.append_col.Goals as goal
 use Rattle.beside.proofs.column.append_col.Goals.{In_ok-append_col_test}
 
-tested : (c : In_ok-append_col_test) → append_col_test c.args.p (matrix c.args.nrows c.args.ncols c.args.row_ptrs.now c.args.col_idcs.now c.args.values.now) c.args.len c.args.idcs.now c.args.col_values.now ≡ Ok tt
+tested : (c : In_ok-append_col_test) → append_col_test c.args.p (seen c.args.matrix) c.args.len c.args.idcs.now c.args.col_values.now ≡ Ok tt
 tested c = sym c.append_col_test.ensures ∙ c.in_ok-append_col_test.was
 
 pub returns-in_err-append_col_test : goal.returns-in_err-append_col_test

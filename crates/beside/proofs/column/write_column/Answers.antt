@@ -22,7 +22,7 @@ unfolding with_column in_column
 put_column_row-at-requires c = record {
   cursor = record { strict = c.requires.strict; stands = c.loop-row.invariant.1 };
   each = c.requires.each;
-  writes = beside_ready _ (in_column c.args.ncols (entries c.args.idcs.now c.args.nums.now)) _ _ _ c.requires.from c.requires.rows c.loop-row.invariant.0 c.loop-row-test.true;
+  writes = beside_ready _ (in_column c.args.matrix.ncols (entries c.args.idcs.now c.args.nums.now)) _ _ _ c.requires.from c.requires.rows c.loop-row.invariant.0 c.loop-row-test.true;
 }
 
 pub past_row-next-requires : goal.past_row-next-requires
@@ -33,7 +33,7 @@ bounds-out_ptrs-row c = next_place _ _ _ _ c.requires.rows c.loop-row.invariant.
 
 pub loop-row-preserved : goal.loop-row-preserved
 unfolding with_column in_column
-loop-row-preserved c = (beside_next _ (in_column c.args.ncols (entries c.args.idcs.now c.args.nums.now)) _ _ _ c.requires.from c.requires.rows c.loop-row.invariant.0 c.loop-row-test.true c.put_column_row-at.ensures, c.past_row-next.ensures)
+loop-row-preserved c = (beside_next _ (in_column c.args.matrix.ncols (entries c.args.idcs.now c.args.nums.now)) _ _ _ c.requires.from c.requires.rows c.loop-row.invariant.0 c.loop-row-test.true c.put_column_row-at.ensures, c.past_row-next.ensures)
 
 pub shape_of-out_ptrs : goal.shape_of-out_ptrs
 shape_of-out_ptrs c = keep_ptrs _ _ _ _ c.requires.rows c.loop-row.invariant.0

@@ -3,7 +3,7 @@
 use Rattle.sparse.proofs.Firsts.{handed}
 use Rattle.std.specs.Prelude.{Ok}
 use mathlib.Core.Path.{◌≡◌, sym, ◌∙◌}
-use Rattle.sparse.specs.Matrix.{matrix}
+use Rattle.sparse.specs.Matrix.{seen}
 use Rattle.writing.proofs.Puttings.{put_refused, put_no_room, put_made}
 use Rattle.beside.specs.Beside.{append_identity, append_identity_test}
 use Rattle.beside.proofs.Passed.{ones_laid, ones_fit}
@@ -11,7 +11,7 @@ use Rattle.beside.proofs.Sizes.{ones_sized}
 use Rattle.beside.proofs.identity.append_identity.Goals as goal
 use Rattle.beside.proofs.identity.append_identity.Goals.{In_ok-append_identity_test}
 
-tested : (c : In_ok-append_identity_test) → append_identity_test c.args.p (matrix c.args.nrows c.args.ncols c.args.row_ptrs.now c.args.col_idcs.now c.args.values.now) ≡ Ok tt
+tested : (c : In_ok-append_identity_test) → append_identity_test c.args.p (seen c.args.matrix) ≡ Ok tt
 tested c = sym c.append_identity_test.ensures ∙ c.in_ok-append_identity_test.was
 
 pub returns-in_err-append_identity_test : goal.returns-in_err-append_identity_test

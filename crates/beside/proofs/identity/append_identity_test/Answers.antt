@@ -8,7 +8,7 @@ use native.Mathlib.Omega.{arith}
 use lib.Dec.{eqb}
 use lib.ListN.{length, drop}
 use borrow.Author.Tests.{eq-eqb, ne_eqb}
-use Rattle.sparse.specs.Matrix.{Matrix, matrix}
+use Rattle.sparse.specs.Matrix.{Matrix, seen}
 use Rattle.sparse.specs.Refusals.{refuse, lowest, Tested}
 use Rattle.sparse.specs.Tests.{modulus_test, size_test, matrix_test}
 use Rattle.sparse.specs.declared.Refusal.TheVariants.{NotSquare}
@@ -28,19 +28,19 @@ tests p m =
     ∷ []
 
 -- after each test that found nothing, the rest decides
-past_modulus : (c : In_ok-modulus_test) {x : Tested} → x ≡ lowest (drop 1 (tests c.args.p (matrix c.args.nrows c.args.ncols c.args.row_ptrs.now c.args.col_idcs.now c.args.values.now))) → x ≡ lowest (tests c.args.p (matrix c.args.nrows c.args.ncols c.args.row_ptrs.now c.args.col_idcs.now c.args.values.now))
+past_modulus : (c : In_ok-modulus_test) {x : Tested} → x ≡ lowest (drop 1 (tests c.args.p (seen c.args.matrix))) → x ≡ lowest (tests c.args.p (seen c.args.matrix))
 past_modulus c h = lowest_next _ c.modulus_test.ensures c.in_ok-modulus_test.was h
 
-past_size : (c : In_ok-size_test) {x : Tested} → x ≡ lowest (drop 2 (tests c.args.p (matrix c.args.nrows c.args.ncols c.args.row_ptrs.now c.args.col_idcs.now c.args.values.now))) → x ≡ lowest (tests c.args.p (matrix c.args.nrows c.args.ncols c.args.row_ptrs.now c.args.col_idcs.now c.args.values.now))
+past_size : (c : In_ok-size_test) {x : Tested} → x ≡ lowest (drop 2 (tests c.args.p (seen c.args.matrix))) → x ≡ lowest (tests c.args.p (seen c.args.matrix))
 past_size c h = (lowest_next _ c.modulus_test.ensures c.in_ok-modulus_test.was (lowest_next _ c.size_test.ensures c.in_ok-size_test.was h))
 
-past_joined : (c : In_ok-size_test-2) {x : Tested} → x ≡ lowest (drop 3 (tests c.args.p (matrix c.args.nrows c.args.ncols c.args.row_ptrs.now c.args.col_idcs.now c.args.values.now))) → x ≡ lowest (tests c.args.p (matrix c.args.nrows c.args.ncols c.args.row_ptrs.now c.args.col_idcs.now c.args.values.now))
+past_joined : (c : In_ok-size_test-2) {x : Tested} → x ≡ lowest (drop 3 (tests c.args.p (seen c.args.matrix))) → x ≡ lowest (tests c.args.p (seen c.args.matrix))
 past_joined c h = (lowest_next _ c.modulus_test.ensures c.in_ok-modulus_test.was (lowest_next _ c.size_test.ensures c.in_ok-size_test.was (lowest_next _ c.size_test-2.ensures c.in_ok-size_test-2.was h)))
 
-past_formed : (c : In_ok-matrix_test) {x : Tested} → x ≡ lowest (drop 4 (tests c.args.p (matrix c.args.nrows c.args.ncols c.args.row_ptrs.now c.args.col_idcs.now c.args.values.now))) → x ≡ lowest (tests c.args.p (matrix c.args.nrows c.args.ncols c.args.row_ptrs.now c.args.col_idcs.now c.args.values.now))
+past_formed : (c : In_ok-matrix_test) {x : Tested} → x ≡ lowest (drop 4 (tests c.args.p (seen c.args.matrix))) → x ≡ lowest (tests c.args.p (seen c.args.matrix))
 past_formed c h = (lowest_next _ c.modulus_test.ensures c.in_ok-modulus_test.was (lowest_next _ c.size_test.ensures c.in_ok-size_test.was (lowest_next _ c.size_test-2.ensures c.in_ok-size_test-2.was (lowest_next _ c.matrix_test.ensures c.in_ok-matrix_test.was h))))
 
-within : (c : In_ok-size_test) → let m = (matrix c.args.nrows c.args.ncols c.args.row_ptrs.now c.args.col_idcs.now c.args.values.now) in Small 65536 m.nrows m.ncols (length m.values)
+within : (c : In_ok-size_test) → let m = (seen c.args.matrix) in Small 65536 m.nrows m.ncols (length m.values)
 within c = small _ _ _ _ (sym c.size_test.ensures ∙ c.in_ok-size_test.was)
 
 pub returns-in_err-modulus_test : goal.returns-in_err-modulus_test

@@ -21,14 +21,14 @@ loop-row-init c = rows_start _ _ _ _ c.requires.rows
 
 pub put_row_and-at-requires : goal.put_row_and-at-requires
 unfolding with_one
-put_row_and-at-requires c = beside_ready _ (one c.args.ncols) _ _ _ c.requires.from c.requires.rows c.loop-row.invariant c.loop-row-test.true
+put_row_and-at-requires c = beside_ready _ (one c.args.matrix.ncols) _ _ _ c.requires.from c.requires.rows c.loop-row.invariant c.loop-row-test.true
 
 pub bounds-out_ptrs-i : goal.bounds-out_ptrs-i
 bounds-out_ptrs-i c = next_place _ _ _ _ c.requires.rows c.loop-row.invariant (rw length-table c.loop-row-test.true)
 
 pub loop-row-preserved : goal.loop-row-preserved
 unfolding with_one
-loop-row-preserved c = beside_next _ (one c.args.ncols) _ _ _ c.requires.from c.requires.rows c.loop-row.invariant c.loop-row-test.true c.put_row_and-at.ensures
+loop-row-preserved c = beside_next _ (one c.args.matrix.ncols) _ _ _ c.requires.from c.requires.rows c.loop-row.invariant c.loop-row-test.true c.put_row_and-at.ensures
 
 pub shape_of-out_ptrs : goal.shape_of-out_ptrs
 shape_of-out_ptrs c = keep_ptrs _ _ _ _ c.requires.rows c.loop-row.invariant

@@ -4,7 +4,7 @@ use Rattle.std.specs.Prelude.{Ok}
 use mathlib.Core.Path.{◌≡◌, refl, sym, ◌∙◌}
 use lib.ListN.{drop}
 use borrow.Author.Tests.{eq-eqb, ne_eqb}
-use Rattle.sparse.specs.Matrix.{matrix}
+use Rattle.sparse.specs.Matrix.{seen}
 use Rattle.sparse.specs.Refusals.{refuse, lowest, Tested}
 use Rattle.sparse.specs.Tests.{shape_test, rows_test}
 use Rattle.sparse.proofs.Cuts.{pointers, cut}
@@ -13,30 +13,30 @@ use Rattle.joining.specs.Joined.{forms_tests, pairs_test}
 use Rattle.joining.proofs.inside.forms_test.Goals as goal
 use Rattle.joining.proofs.inside.forms_test.Goals.{Else-idcs-nums, In_ok-shape_test, In_ok-columns_test, In_ok-rows_values_test, In_ok-rows_test}
 
-shaped : (c : In_ok-shape_test) → shape_test (matrix c.args.nrows c.args.ncols c.args.row_ptrs.now c.args.col_idcs.now c.args.values.now) ≡ Ok tt
+shaped : (c : In_ok-shape_test) → shape_test (seen c.args.matrix) ≡ Ok tt
 shaped c = sym c.shape_test.ensures ∙ c.in_ok-shape_test.was
 
-lined : (c : In_ok-rows_test) → let m = (matrix c.args.nrows c.args.ncols c.args.row_ptrs.now c.args.col_idcs.now c.args.values.now) in rows_test m.nrows m.ncols m.row_ptrs m.col_idcs ≡ Ok tt
+lined : (c : In_ok-rows_test) → let m = (seen c.args.matrix) in rows_test m.nrows m.ncols m.row_ptrs m.col_idcs ≡ Ok tt
 lined c = sym c.rows_test.ensures ∙ c.in_ok-rows_test.was
 
 -- after each test that found nothing, the rest decides
-past_shape : (c : In_ok-shape_test) {x : Tested} → x ≡ lowest (drop 1 (forms_tests c.args.p (matrix c.args.nrows c.args.ncols c.args.row_ptrs.now c.args.col_idcs.now c.args.values.now) c.args.len c.args.idcs.now c.args.nums.now)) → x ≡ lowest (forms_tests c.args.p (matrix c.args.nrows c.args.ncols c.args.row_ptrs.now c.args.col_idcs.now c.args.values.now) c.args.len c.args.idcs.now c.args.nums.now)
+past_shape : (c : In_ok-shape_test) {x : Tested} → x ≡ lowest (drop 1 (forms_tests c.args.p (seen c.args.matrix) c.args.len c.args.idcs.now c.args.nums.now)) → x ≡ lowest (forms_tests c.args.p (seen c.args.matrix) c.args.len c.args.idcs.now c.args.nums.now)
 unfolding forms_tests
 past_shape c h = lowest_next _ c.shape_test.ensures c.in_ok-shape_test.was h
 
-past_pairs : (c : Else-idcs-nums) {x : Tested} → x ≡ lowest (drop 2 (forms_tests c.args.p (matrix c.args.nrows c.args.ncols c.args.row_ptrs.now c.args.col_idcs.now c.args.values.now) c.args.len c.args.idcs.now c.args.nums.now)) → x ≡ lowest (forms_tests c.args.p (matrix c.args.nrows c.args.ncols c.args.row_ptrs.now c.args.col_idcs.now c.args.values.now) c.args.len c.args.idcs.now c.args.nums.now)
+past_pairs : (c : Else-idcs-nums) {x : Tested} → x ≡ lowest (drop 2 (forms_tests c.args.p (seen c.args.matrix) c.args.len c.args.idcs.now c.args.nums.now)) → x ≡ lowest (forms_tests c.args.p (seen c.args.matrix) c.args.len c.args.idcs.now c.args.nums.now)
 unfolding forms_tests pairs_test refuse
 past_pairs c h = (lowest_next _ c.shape_test.ensures c.in_ok-shape_test.was (lowest_next _ refl (rw (eq-eqb _ _ c.if-idcs-nums.false)) h))
 
-past_rows : (c : In_ok-rows_test) {x : Tested} → x ≡ lowest (drop 3 (forms_tests c.args.p (matrix c.args.nrows c.args.ncols c.args.row_ptrs.now c.args.col_idcs.now c.args.values.now) c.args.len c.args.idcs.now c.args.nums.now)) → x ≡ lowest (forms_tests c.args.p (matrix c.args.nrows c.args.ncols c.args.row_ptrs.now c.args.col_idcs.now c.args.values.now) c.args.len c.args.idcs.now c.args.nums.now)
+past_rows : (c : In_ok-rows_test) {x : Tested} → x ≡ lowest (drop 3 (forms_tests c.args.p (seen c.args.matrix) c.args.len c.args.idcs.now c.args.nums.now)) → x ≡ lowest (forms_tests c.args.p (seen c.args.matrix) c.args.len c.args.idcs.now c.args.nums.now)
 unfolding forms_tests pairs_test refuse
 past_rows c h = (lowest_next _ c.shape_test.ensures c.in_ok-shape_test.was (lowest_next _ refl (rw (eq-eqb _ _ c.if-idcs-nums.false)) (lowest_next _ c.rows_test.ensures c.in_ok-rows_test.was h)))
 
-past_columns : (c : In_ok-columns_test) {x : Tested} → x ≡ lowest (drop 4 (forms_tests c.args.p (matrix c.args.nrows c.args.ncols c.args.row_ptrs.now c.args.col_idcs.now c.args.values.now) c.args.len c.args.idcs.now c.args.nums.now)) → x ≡ lowest (forms_tests c.args.p (matrix c.args.nrows c.args.ncols c.args.row_ptrs.now c.args.col_idcs.now c.args.values.now) c.args.len c.args.idcs.now c.args.nums.now)
+past_columns : (c : In_ok-columns_test) {x : Tested} → x ≡ lowest (drop 4 (forms_tests c.args.p (seen c.args.matrix) c.args.len c.args.idcs.now c.args.nums.now)) → x ≡ lowest (forms_tests c.args.p (seen c.args.matrix) c.args.len c.args.idcs.now c.args.nums.now)
 unfolding forms_tests pairs_test refuse
 past_columns c h = (lowest_next _ c.shape_test.ensures c.in_ok-shape_test.was (lowest_next _ refl (rw (eq-eqb _ _ c.if-idcs-nums.false)) (lowest_next _ c.rows_test.ensures c.in_ok-rows_test.was (lowest_next _ c.columns_test.ensures c.in_ok-columns_test.was h))))
 
-past_residues : (c : In_ok-rows_values_test) {x : Tested} → x ≡ lowest (drop 5 (forms_tests c.args.p (matrix c.args.nrows c.args.ncols c.args.row_ptrs.now c.args.col_idcs.now c.args.values.now) c.args.len c.args.idcs.now c.args.nums.now)) → x ≡ lowest (forms_tests c.args.p (matrix c.args.nrows c.args.ncols c.args.row_ptrs.now c.args.col_idcs.now c.args.values.now) c.args.len c.args.idcs.now c.args.nums.now)
+past_residues : (c : In_ok-rows_values_test) {x : Tested} → x ≡ lowest (drop 5 (forms_tests c.args.p (seen c.args.matrix) c.args.len c.args.idcs.now c.args.nums.now)) → x ≡ lowest (forms_tests c.args.p (seen c.args.matrix) c.args.len c.args.idcs.now c.args.nums.now)
 unfolding forms_tests pairs_test refuse
 past_residues c h = (lowest_next _ c.shape_test.ensures c.in_ok-shape_test.was (lowest_next _ refl (rw (eq-eqb _ _ c.if-idcs-nums.false)) (lowest_next _ c.rows_test.ensures c.in_ok-rows_test.was (lowest_next _ c.columns_test.ensures c.in_ok-columns_test.was (lowest_next _ c.rows_values_test.ensures c.in_ok-rows_values_test.was h)))))
 

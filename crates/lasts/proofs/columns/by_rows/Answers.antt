@@ -3,7 +3,7 @@
 use Rattle.sparse.proofs.Firsts.{handed}
 use Rattle.std.specs.Prelude.{Ok}
 use mathlib.Core.Path.{◌≡◌, refl, sym, ◌∙◌}
-use Rattle.sparse.specs.Matrix.{matrix}
+use Rattle.sparse.specs.Matrix.{seen}
 use Rattle.sparse.specs.Tests.{well_formed}
 use Rattle.lasts.proofs.Vectors.{vector_refused, vector_same}
 use Rattle.lasts.proofs.Ways.{rows_sourced}
@@ -11,7 +11,7 @@ use Rattle.lasts.proofs.columns.by_rows.Goals as goal
 use Rattle.lasts.proofs.columns.by_rows.Goals.{In_ok-well_formed}
 
 -- past the tests: they found nothing
-formed : (c : In_ok-well_formed) → let a = c.args in well_formed 65536 a.p (matrix a.nrows a.ncols a.row_ptrs.now a.col_idcs.now a.values.now) ≡ Ok tt
+formed : (c : In_ok-well_formed) → let a = c.args in well_formed 65536 a.p (seen a.matrix) ≡ Ok tt
 formed c = sym c.well_formed-2.ensures ∙ c.in_ok-well_formed.was
 
 pub returns-in_err-well_formed : goal.returns-in_err-well_formed

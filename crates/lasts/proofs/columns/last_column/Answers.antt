@@ -13,4 +13,4 @@ by_rows-requires c = rows_in_order
 
 pub returns : goal.returns
 unfolding last_column mark
-returns c = vector_same _ _ refl (by_row_lem _ _ (omega (arith, c.ranges.nrows))) c.by_rows.ensures
+returns c = vector_same _ _ refl (by_row_lem _ _ (omega (arith, c.ranges.matrix.0))) c.by_rows.ensures

@@ -3,7 +3,7 @@
 use Rattle.sparse.proofs.Firsts.{handed}
 use Rattle.std.specs.Prelude.{Ok}
 use mathlib.Core.Path.{◌≡◌, sym, ◌∙◌}
-use Rattle.sparse.specs.Matrix.{matrix}
+use Rattle.sparse.specs.Matrix.{seen}
 use Rattle.pivots.specs.Tables.{table_test}
 use Rattle.lasts.specs.Lasts.{last_column_by_pivot}
 use Rattle.lasts.proofs.Vectors.{vector_refused, vector_same}
@@ -12,7 +12,7 @@ use Rattle.lasts.proofs.columns.last_column_by_pivot.Goals as goal
 use Rattle.lasts.proofs.columns.last_column_by_pivot.Goals.{In_ok-table_test}
 
 -- past the tests: they found nothing
-tested : (c : In_ok-table_test) → let a = c.args in table_test a.p (matrix a.nrows a.ncols a.row_ptrs.now a.col_idcs.now a.values.now) a.pivots.now ≡ Ok tt
+tested : (c : In_ok-table_test) → let a = c.args in table_test a.p (seen a.matrix) a.pivots.now ≡ Ok tt
 tested c = sym c.table_test.ensures ∙ c.in_ok-table_test.was
 
 pub returns-in_err-table_test : goal.returns-in_err-table_test

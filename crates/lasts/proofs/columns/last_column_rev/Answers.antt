@@ -13,4 +13,4 @@ by_rows-requires c = rows_reversed
 
 pub returns : goal.returns
 unfolding last_column_rev mark
-returns c = vector_same _ _ refl (by_row_rev_lem _ _ (omega (arith, c.ranges.nrows))) c.by_rows.ensures
+returns c = vector_same _ _ refl (by_row_rev_lem _ _ (omega (arith, c.ranges.matrix.0))) c.by_rows.ensures

@@ -1,5 +1,5 @@
 -- `count_last` meets its contract. The loop's invariant: the indices before k are counted.
-use Rattle.sparse.specs.Matrix.{matrix}
+use Rattle.sparse.specs.Matrix.{seen}
 use Rattle.lasts.specs.Asks.{At}
 use Rattle.lasts.specs.Gathers.{gathered}
 use Rattle.lasts.proofs.Gathering.{tally_none, tally_one, tally_skip, tally_all}
@@ -8,7 +8,7 @@ use Rattle.lasts.proofs.gather.count_last.Goals as goal
 use Rattle.lasts.proofs.gather.count_last.Goals.{In-loop-k, in-Some, in_default}
 
 -- index k is one of them
-at_index : (c : In-loop-k) → let a = c.args in At a.order (matrix a.nrows a.ncols a.row_ptrs.now a.col_idcs.now a.values.now) a.pivots.now c.loop-k.k
+at_index : (c : In-loop-k) → let a = c.args in At a.order (seen a.matrix) a.pivots.now c.loop-k.k
 at_index c = record { from = c.requires; within = rw (← c.indices-size.ensures) c.loop-k-test.true }
 
 pub indices-size-requires : goal.indices-size-requires

@@ -1,8 +1,8 @@
 -- `count_last` meets its contract. The loop's invariant: the indices before k are counted.
-use Rattle.sparse.specs.Matrix.{matrix}
+use Rattle.sparse.specs.Matrix.{seen}
 use Rattle.lasts.specs.Gathers.{taken}
 use Rattle.lasts.proofs.Gathering.{Tally}
 use Rattle.lasts.proofs.gather.count_last.Given as goal
 
 abbrev pub invariant-loop-k : goal.invariant-loop-k
-invariant-loop-k l = Tally (taken l.order (matrix l.nrows l.ncols l.row_ptrs l.col_idcs l.values) l.pivots) l.found l.k
+invariant-loop-k l = Tally (taken l.order (seen l.matrix) l.pivots) l.found l.k

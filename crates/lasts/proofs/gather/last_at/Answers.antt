@@ -3,7 +3,7 @@
 use mathlib.Core.Path.{◌≡◌, sym, ◌∙◌}
 use Prim.Native.Nat.{◌<◌}
 use native.Mathlib.Omega.{arith}
-use Rattle.sparse.specs.Matrix.{matrix, part, row}
+use Rattle.sparse.specs.Matrix.{part, row, seen}
 use Rattle.sparse.specs.Pivots.{mark}
 use Rattle.readers.proofs.Identities.{row_climbing}
 use Rattle.lasts.specs.Gathers.{held}
@@ -12,12 +12,12 @@ use Rattle.lasts.proofs.gather.last_at.Goals as goal
 use Rattle.lasts.proofs.gather.last_at.Goals.{Else-row}
 
 -- past the mark: the source is a row
-is_row : (c : Else-row) → c.source-row.result < (let a = c.args in matrix a.nrows a.ncols a.row_ptrs.now a.col_idcs.now a.values.now).nrows
+is_row : (c : Else-row) → c.source-row.result < (seen c.args.matrix).nrows
 unfolding mark
-is_row c = rw c.source-row.ensures (source_row c.args.order (let a = c.args in matrix a.nrows a.ncols a.row_ptrs.now a.col_idcs.now a.values.now) c.args.pivots.now c.args.k c.requires (λ e. omega (arith, c.if-row.false, c.source-row.ensures)))
+is_row c = rw c.source-row.ensures (source_row c.args.order (seen c.args.matrix) c.args.pivots.now c.args.k c.requires (λ e. omega (arith, c.if-row.false, c.source-row.ensures)))
 
-lies : (c : Else-row) → RowIn (let a = c.args in matrix a.nrows a.ncols a.row_ptrs.now a.col_idcs.now a.values.now) c.source-row.result
-lies c = row_within (let a = c.args in matrix a.nrows a.ncols a.row_ptrs.now a.col_idcs.now a.values.now) _ c.requires.from.whole (is_row c)
+lies : (c : Else-row) → RowIn (seen c.args.matrix) c.source-row.result
+lies c = row_within (seen c.args.matrix) _ c.requires.from.whole (is_row c)
 
 pub returns-then-row : goal.returns-then-row
 unfolding held mark
@@ -57,10 +57,10 @@ slice_bounds-last_in-end-2 c = omega (arith, lies (goal.at.slice_bounds-last_in-
 
 pub last_in-requires : goal.last_in-requires
 unfolding row part
-last_in-requires c = row_climbing (let a = c.args in matrix a.nrows a.ncols a.row_ptrs.now a.col_idcs.now a.values.now) c.requires.from.whole _ (is_row (goal.at.last_in-requires c).Else-row)
+last_in-requires c = row_climbing (seen c.args.matrix) c.requires.from.whole _ (is_row (goal.at.last_in-requires c).Else-row)
 
 pub returns : goal.returns
 unfolding row part mark
 returns c = c.last_in.ensures c.args.k
-    ∙ sym (last_of_row (let a = c.args in matrix a.nrows a.ncols a.row_ptrs.now a.col_idcs.now a.values.now) _ c.requires.from.whole (is_row (goal.at.returns c).Else-row) c.args.k)
-    ∙ rw c.source-row.ensures (sym (taken_last c.args.order (let a = c.args in matrix a.nrows a.ncols a.row_ptrs.now a.col_idcs.now a.values.now) c.args.pivots.now c.args.k (λ q. let at_mark : c.source-row.result ≡ 4294967295 = c.source-row.ensures ∙ q in c.if-row.false (omega (arith, at_mark)))))
+    ∙ sym (last_of_row (seen c.args.matrix) _ c.requires.from.whole (is_row (goal.at.returns c).Else-row) c.args.k)
+    ∙ rw c.source-row.ensures (sym (taken_last c.args.order (seen c.args.matrix) c.args.pivots.now c.args.k (λ q. let at_mark : c.source-row.result ≡ 4294967295 = c.source-row.ensures ∙ q in c.if-row.false (omega (arith, at_mark)))))

@@ -3,7 +3,7 @@ use Prim.Native.Nat.{◌<◌}
 use native.Mathlib.Omega.{arith}
 use lib.ListN.{length}
 use Rattle.sparse.specs.Lent.{lent_vector}
-use Rattle.sparse.specs.Matrix.{matrix}
+use Rattle.sparse.specs.Matrix.{seen}
 use Rattle.lasts.specs.Asks.{At}
 use Rattle.lasts.specs.Gathers.{taken, gathered}
 use Rattle.lasts.proofs.Gathering.{Fits, tally_room, gathering_none, gathering_one, gathering_skip, gathering_all, idcs_keep, vals_keep}
@@ -12,18 +12,18 @@ use Rattle.lasts.proofs.gather.write_last.Goals as goal
 use Rattle.lasts.proofs.gather.write_last.Goals.{After-indices-size, In-Some, In-loop-k, in-Some, in_default}
 
 -- index k is one of them
-at_index : (c : In-loop-k) → let a = c.args in At a.order (matrix a.nrows a.ncols a.row_ptrs.now a.col_idcs.now a.values.now) a.pivots.now c.loop-k.k
+at_index : (c : In-loop-k) → let a = c.args in At a.order (seen a.matrix) a.pivots.now c.loop-k.k
 at_index c = record { from = c.requires.from; within = rw (← c.indices-size.ensures) c.loop-k-test.true }
 
 -- what is gathered fits
-fits : (c : After-indices-size) → let a = c.args in Fits (taken a.order (matrix a.nrows a.ncols a.row_ptrs.now a.col_idcs.now a.values.now) a.pivots.now) (lent_vector a.out_idcs.now a.out_vals.now)
+fits : (c : After-indices-size) → let a = c.args in Fits (taken a.order (seen a.matrix) a.pivots.now) (lent_vector a.out_idcs.now a.out_vals.now)
 fits c = room_for c.requires
 
 -- there is a place for the entry
 place : (c : In-Some) → let l = c.loop-k in (l.at < length l.out_idcs) × (l.at < length l.out_vals)
 place c = let inv = c.loop-k.invariant in
     let f = (room_for c.requires) in
-    let i = (let it : let a = c.args in At a.order (matrix a.nrows a.ncols a.row_ptrs.now a.col_idcs.now a.values.now) a.pivots.now c.loop-k.k = record { from = c.requires.from; within = rw (← c.indices-size.ensures) c.loop-k-test.true } in it) in
+    let i = (let it : let a = c.args in At a.order (seen a.matrix) a.pivots.now c.loop-k.k = record { from = c.requires.from; within = rw (← c.indices-size.ensures) c.loop-k-test.true } in it) in
     let room = tally_room _ _ _ inv.tally (one_of i) (found_one i c.last_at-last.ensures c.in-Some.is) in
     (omega (arith, room, f.indices, idcs_keep f inv), omega (arith, room, f.numbers, vals_keep f inv))
 

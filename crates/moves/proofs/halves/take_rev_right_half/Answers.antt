@@ -3,14 +3,14 @@
 use Rattle.sparse.proofs.Firsts.{handed}
 use Rattle.std.specs.Prelude.{Ok}
 use mathlib.Core.Path.{◌≡◌, sym, ◌∙◌}
-use Rattle.sparse.specs.Matrix.{matrix}
+use Rattle.sparse.specs.Matrix.{seen}
 use Rattle.writing.proofs.Puttings.{put_refused, put_no_room, put_made}
 use Rattle.moves.specs.Moves.{half, take_rev_test, take_rev_right_half}
 use Rattle.moves.proofs.HalfRows.{half_sized, half_rows, half_fits}
 use Rattle.moves.proofs.halves.take_rev_right_half.Goals as goal
 use Rattle.moves.proofs.halves.take_rev_right_half.Goals.{In_ok-take_rev_test}
 
-tested : (c : In_ok-take_rev_test) → take_rev_test c.args.p (matrix c.args.nrows c.args.ncols c.args.row_ptrs.now c.args.col_idcs.now c.args.values.now) ≡ Ok tt
+tested : (c : In_ok-take_rev_test) → take_rev_test c.args.p (seen c.args.matrix) ≡ Ok tt
 tested c = sym c.take_rev_test.ensures ∙ c.in_ok-take_rev_test.was
 
 pub returns-in_err-take_rev_test : goal.returns-in_err-take_rev_test

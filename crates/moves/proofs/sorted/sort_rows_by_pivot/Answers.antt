@@ -3,7 +3,7 @@
 use Rattle.sparse.proofs.Firsts.{handed}
 use Rattle.std.specs.Prelude.{Ok}
 use mathlib.Core.Path.{◌≡◌, sym, ◌∙◌}
-use Rattle.sparse.specs.Matrix.{matrix}
+use Rattle.sparse.specs.Matrix.{seen}
 use Rattle.writing.proofs.Puttings.{put_refused, put_no_room, put_made}
 use Rattle.pivots.specs.Tables.{table_test}
 use Rattle.moves.specs.Moves.{sort_rows_by_pivot}
@@ -11,7 +11,7 @@ use Rattle.moves.proofs.SortPassed.{sort_sized, sort_rows, sort_fits}
 use Rattle.moves.proofs.sorted.sort_rows_by_pivot.Goals as goal
 use Rattle.moves.proofs.sorted.sort_rows_by_pivot.Goals.{In_ok-table_test}
 
-tested : (c : In_ok-table_test) → table_test c.args.p (matrix c.args.nrows c.args.ncols c.args.row_ptrs.now c.args.col_idcs.now c.args.values.now) c.args.pivots.now ≡ Ok tt
+tested : (c : In_ok-table_test) → table_test c.args.p (seen c.args.matrix) c.args.pivots.now ≡ Ok tt
 tested c = sym c.table_test.ensures ∙ c.in_ok-table_test.was
 
 pub returns-in_err-table_test : goal.returns-in_err-table_test

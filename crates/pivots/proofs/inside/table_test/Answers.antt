@@ -4,7 +4,7 @@ use mathlib.Core.Path.{◌≡◌, sym, ◌∙◌}
 use mathlib.Core.List.{List, [], ◌∷◌}
 use Prim.Native.Nat.{ℕ}
 use lib.ListN.{length, drop}
-use Rattle.sparse.specs.Matrix.{Matrix, matrix}
+use Rattle.sparse.specs.Matrix.{Matrix, seen}
 use Rattle.sparse.specs.Pivots.{pivots_test}
 use Rattle.sparse.specs.Refusals.{lowest, Tested}
 use Rattle.sparse.specs.Tests.{modulus_test, size_test, matrix_test}
@@ -24,16 +24,16 @@ tests p m pivots =
     ∷ []
 
 -- after each test that found nothing, the rest decides
-past_modulus : (c : In_ok-modulus_test) {x : Tested} → x ≡ lowest (drop 1 (tests c.args.p (matrix c.args.nrows c.args.ncols c.args.row_ptrs.now c.args.col_idcs.now c.args.values.now) c.args.pivots.now)) → x ≡ lowest (tests c.args.p (matrix c.args.nrows c.args.ncols c.args.row_ptrs.now c.args.col_idcs.now c.args.values.now) c.args.pivots.now)
+past_modulus : (c : In_ok-modulus_test) {x : Tested} → x ≡ lowest (drop 1 (tests c.args.p (seen c.args.matrix) c.args.pivots.now)) → x ≡ lowest (tests c.args.p (seen c.args.matrix) c.args.pivots.now)
 past_modulus c h = lowest_next _ c.modulus_test.ensures c.in_ok-modulus_test.was h
 
-past_size : (c : In_ok-size_test) {x : Tested} → x ≡ lowest (drop 2 (tests c.args.p (matrix c.args.nrows c.args.ncols c.args.row_ptrs.now c.args.col_idcs.now c.args.values.now) c.args.pivots.now)) → x ≡ lowest (tests c.args.p (matrix c.args.nrows c.args.ncols c.args.row_ptrs.now c.args.col_idcs.now c.args.values.now) c.args.pivots.now)
+past_size : (c : In_ok-size_test) {x : Tested} → x ≡ lowest (drop 2 (tests c.args.p (seen c.args.matrix) c.args.pivots.now)) → x ≡ lowest (tests c.args.p (seen c.args.matrix) c.args.pivots.now)
 past_size c h = (lowest_next _ c.modulus_test.ensures c.in_ok-modulus_test.was (lowest_next _ c.size_test.ensures c.in_ok-size_test.was h))
 
-past_length : (c : In_ok-length_test) {x : Tested} → x ≡ lowest (drop 3 (tests c.args.p (matrix c.args.nrows c.args.ncols c.args.row_ptrs.now c.args.col_idcs.now c.args.values.now) c.args.pivots.now)) → x ≡ lowest (tests c.args.p (matrix c.args.nrows c.args.ncols c.args.row_ptrs.now c.args.col_idcs.now c.args.values.now) c.args.pivots.now)
+past_length : (c : In_ok-length_test) {x : Tested} → x ≡ lowest (drop 3 (tests c.args.p (seen c.args.matrix) c.args.pivots.now)) → x ≡ lowest (tests c.args.p (seen c.args.matrix) c.args.pivots.now)
 past_length c h = (lowest_next _ c.modulus_test.ensures c.in_ok-modulus_test.was (lowest_next _ c.size_test.ensures c.in_ok-size_test.was (lowest_next _ c.length_test.ensures c.in_ok-length_test.was h)))
 
-past_formed : (c : In_ok-matrix_test) {x : Tested} → x ≡ lowest (drop 4 (tests c.args.p (matrix c.args.nrows c.args.ncols c.args.row_ptrs.now c.args.col_idcs.now c.args.values.now) c.args.pivots.now)) → x ≡ lowest (tests c.args.p (matrix c.args.nrows c.args.ncols c.args.row_ptrs.now c.args.col_idcs.now c.args.values.now) c.args.pivots.now)
+past_formed : (c : In_ok-matrix_test) {x : Tested} → x ≡ lowest (drop 4 (tests c.args.p (seen c.args.matrix) c.args.pivots.now)) → x ≡ lowest (tests c.args.p (seen c.args.matrix) c.args.pivots.now)
 past_formed c h = (lowest_next _ c.modulus_test.ensures c.in_ok-modulus_test.was (lowest_next _ c.size_test.ensures c.in_ok-size_test.was (lowest_next _ c.length_test.ensures c.in_ok-length_test.was (lowest_next _ c.matrix_test.ensures c.in_ok-matrix_test.was h))))
 
 pub returns-in_err-modulus_test : goal.returns-in_err-modulus_test

@@ -7,7 +7,7 @@ use native.Mathlib.Omega.{arith}
 use borrow.Author.Tests.{eq-eqb, ne_eqb}
 use lib.ListN.{length, get_or, length-take, length-drop}
 use Rattle.sparse.specs.Lent.{lent_vector, vector_room_test, unless}
-use Rattle.sparse.specs.Matrix.{matrix}
+use Rattle.sparse.specs.Matrix.{seen}
 use Rattle.sparse.specs.Tests.{well_formed}
 use Rattle.sparse.proofs.Firsts.{handed}
 use Rattle.sparse.proofs.Cuts.{Laid, formed_laid}
@@ -17,21 +17,21 @@ use Rattle.readers.proofs.rows.last_row.Goals as goal
 use Rattle.readers.proofs.rows.last_row.Goals.{Else-nrows-eq0, In_ok-well_formed, In_ok-vector_room_test}
 
 -- past the tests: they found nothing
-formed : (c : In_ok-well_formed) → well_formed 65536 c.args.p (let a = c.args in matrix a.nrows a.ncols a.row_ptrs.now a.col_idcs.now a.values.now) ≡ Ok tt
+formed : (c : In_ok-well_formed) → well_formed 65536 c.args.p (seen c.args.matrix) ≡ Ok tt
 formed c = sym c.well_formed-2.ensures ∙ c.in_ok-well_formed.was
 
-lays : (c : In_ok-well_formed) → Laid (let a = c.args in matrix a.nrows a.ncols a.row_ptrs.now a.col_idcs.now a.values.now)
-lays c = formed_laid 65536 c.args.p (let a = c.args in matrix a.nrows a.ncols a.row_ptrs.now a.col_idcs.now a.values.now) (formed c)
+lays : (c : In_ok-well_formed) → Laid (seen c.args.matrix)
+lays c = formed_laid 65536 c.args.p (seen c.args.matrix) (formed c)
 
 -- there is a row
-some_row : (c : Else-nrows-eq0) → 0 < (let a = c.args in matrix a.nrows a.ncols a.row_ptrs.now a.col_idcs.now a.values.now).nrows
-some_row c = let n : c.args.nrows ≡ 0 → ⊥ = c.if-nrows-eq0.false in omega arith
+some_row : (c : Else-nrows-eq0) → 0 < (seen c.args.matrix).nrows
+some_row c = let n : c.args.matrix.nrows ≡ 0 → ⊥ = c.if-nrows-eq0.false in omega arith
 
-within : (c : Else-nrows-eq0) → get_or (let a = c.args in matrix a.nrows a.ncols a.row_ptrs.now a.col_idcs.now a.values.now).row_ptrs ((let a = c.args in matrix a.nrows a.ncols a.row_ptrs.now a.col_idcs.now a.values.now).nrows - 1) 0 ≤ length (let a = c.args in matrix a.nrows a.ncols a.row_ptrs.now a.col_idcs.now a.values.now).values
-within c = starts_within (let a = c.args in matrix a.nrows a.ncols a.row_ptrs.now a.col_idcs.now a.values.now) (formed_laid 65536 c.args.p (let a = c.args in matrix a.nrows a.ncols a.row_ptrs.now a.col_idcs.now a.values.now) (sym c.well_formed-2.ensures ∙ c.in_ok-well_formed.was)) (some_row c)
+within : (c : Else-nrows-eq0) → get_or (seen c.args.matrix).row_ptrs ((seen c.args.matrix).nrows - 1) 0 ≤ length (seen c.args.matrix).values
+within c = starts_within (seen c.args.matrix) (formed_laid 65536 c.args.p (seen c.args.matrix) (sym c.well_formed-2.ensures ∙ c.in_ok-well_formed.was)) (some_row c)
 
 -- past the room: there is enough
-roomy : (c : In_ok-vector_room_test) → let m = (let a = c.args in matrix a.nrows a.ncols a.row_ptrs.now a.col_idcs.now a.values.now) in let a = c.args in vector_room_test (length m.values - get_or m.row_ptrs (m.nrows - 1) 0) (lent_vector a.out_idcs.now a.out_vals.now) ≡ Ok tt
+roomy : (c : In_ok-vector_room_test) → let m = (seen c.args.matrix) in let a = c.args in vector_room_test (length m.values - get_or m.row_ptrs (m.nrows - 1) 0) (lent_vector a.out_idcs.now a.out_vals.now) ≡ Ok tt
 roomy c = sym c.vector_room_test.ensures ∙ c.in_ok-vector_room_test.was
 
 pub returns-in_err-well_formed : goal.returns-in_err-well_formed
@@ -50,7 +50,7 @@ overflow_sub-values c = omega (arith, within (goal.at.overflow_sub-values c).Els
 
 pub returns-in_err-vector_room_test : goal.returns-in_err-vector_room_test
 unfolding last_row unless
-returns-in_err-vector_room_test c = rw (handed c.from_residual-in_err-vector_room_test.ensures.1) (rw (formed (goal.at.returns-in_err-vector_room_test c).In_ok-well_formed, ne_eqb _ _ c.if-nrows-eq0.false, last_long (let a = c.args in matrix a.nrows a.ncols a.row_ptrs.now a.col_idcs.now a.values.now) (lays (goal.at.returns-in_err-vector_room_test c).In_ok-well_formed) (some_row (goal.at.returns-in_err-vector_room_test c).Else-nrows-eq0), ← c.vector_room_test.ensures, c.in_err-vector_room_test.was))
+returns-in_err-vector_room_test c = rw (handed c.from_residual-in_err-vector_room_test.ensures.1) (rw (formed (goal.at.returns-in_err-vector_room_test c).In_ok-well_formed, ne_eqb _ _ c.if-nrows-eq0.false, last_long (seen c.args.matrix) (lays (goal.at.returns-in_err-vector_room_test c).In_ok-well_formed) (some_row (goal.at.returns-in_err-vector_room_test c).Else-nrows-eq0), ← c.vector_room_test.ensures, c.in_err-vector_room_test.was))
 
 pub offset_bounds-col_idcs-start : goal.offset_bounds-col_idcs-start
 offset_bounds-col_idcs-start c = omega (arith, within (goal.at.offset_bounds-col_idcs-start c).Else-nrows-eq0, (lays (goal.at.offset_bounds-col_idcs-start c).In_ok-well_formed).shape.col_each)
@@ -81,4 +81,4 @@ overflow_sub-result c = omega (arith, within (goal.at.overflow_sub-result c).Els
 
 pub returns : goal.returns
 unfolding last_row unless row_found
-returns c = rw (formed (goal.at.returns c).In_ok-well_formed, ne_eqb _ _ c.if-nrows-eq0.false, last_long (let a = c.args in matrix a.nrows a.ncols a.row_ptrs.now a.col_idcs.now a.values.now) (lays (goal.at.returns c).In_ok-well_formed) (some_row (goal.at.returns c).Else-nrows-eq0), roomy (goal.at.returns c).In_ok-vector_room_test, last_cols (let a = c.args in matrix a.nrows a.ncols a.row_ptrs.now a.col_idcs.now a.values.now) (lays (goal.at.returns c).In_ok-well_formed) (some_row (goal.at.returns c).Else-nrows-eq0), last_values (let a = c.args in matrix a.nrows a.ncols a.row_ptrs.now a.col_idcs.now a.values.now) (lays (goal.at.returns c).In_ok-well_formed) (some_row (goal.at.returns c).Else-nrows-eq0), c.copy.ensures, c.copy-2.ensures)
+returns c = rw (formed (goal.at.returns c).In_ok-well_formed, ne_eqb _ _ c.if-nrows-eq0.false, last_long (seen c.args.matrix) (lays (goal.at.returns c).In_ok-well_formed) (some_row (goal.at.returns c).Else-nrows-eq0), roomy (goal.at.returns c).In_ok-vector_room_test, last_cols (seen c.args.matrix) (lays (goal.at.returns c).In_ok-well_formed) (some_row (goal.at.returns c).Else-nrows-eq0), last_values (seen c.args.matrix) (lays (goal.at.returns c).In_ok-well_formed) (some_row (goal.at.returns c).Else-nrows-eq0), c.copy.ensures, c.copy-2.ensures)
