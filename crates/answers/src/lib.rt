@@ -101,6 +101,7 @@ impl Out {
     }
 
     fn put_run<T: Integer>(&mut self, run: &[T]) {
+        // Nothing to hand None on to: `chunk_by` gives no empty run.
         let Some(value) = run.first() else { return };
         self.put_number(*value);
         if run.len() > 1 {

@@ -11,8 +11,8 @@ use sparse::inside::{matrix_test, modulus_test, size_test};
 use sparse::{MAX_ENTRIES, MAX_SIDE, Matrix, Refusal};
 
 // Moves the stored columns in place, and answers the new column count; or the lowest of 1 to 6 and
-// 12 that applies, and the columns as they came. The five parts stand alone here: a `Matrix` shares them
-// all, and the columns are lent to be changed.
+// 12 that applies, and the columns as they came. The five parts stand alone here: the slices of a `Matrix` are
+// shared, and the columns are changed.
 pub fn add_cols(
     p: u32,
     nrows: u32,

@@ -111,6 +111,7 @@ pub fn read_entries(
 {
     let mut next = at;
     for k in 0..count as usize {
+        // No answer to hand None on by: the contract says that the lines are there.
         let Some(entry) = line_at(text, next) else {
             return;
         };

@@ -32,6 +32,7 @@ fn main(rt: HostRuntime) -> ExitCode {
 }
 
 fn tell_file(rt: &HostRuntime, path: &[u8]) -> ExitCode {
+    // No `?`: the exit status is no Result, and the message is its own.
     let Ok(path) = str::from_utf8(path) else {
         return fail(rt, "argument", "not UTF-8");
     };

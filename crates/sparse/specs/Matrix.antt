@@ -3,7 +3,7 @@ use Rattle.std.specs.Prelude.{ℕ, ◌+◌, ◌-◌, cond, List, eqb, length, ge
 use Rattle.sparse.specs.declared.Matrix.{Matrix as Compressed}
 use Rattle.lists.specs.Sum.{Σ}
 
--- a matrix as it is lent
+-- what a matrix's slices hold
 pub record Matrix : Type 0 where
   pub nrows : ℕ
   pub ncols : ℕ
@@ -14,7 +14,7 @@ pub record Matrix : Type 0 where
 abbrev pub matrix : ℕ → ℕ → List ℕ → List ℕ → List ℕ → Matrix
 matrix n m ptrs cols vals = record { nrows = n; ncols = m; row_ptrs = ptrs; col_idcs = cols; values = vals }
 
--- a matrix over lent slices as what it holds
+-- what a `sparse::Matrix` holds
 abbrev pub seen : Compressed → Matrix
 seen m = matrix m.nrows m.ncols m.row_ptrs.now m.col_idcs.now m.values.now
 

@@ -12,8 +12,8 @@ use sparse::Refusal;
 use sparse::inside::room_test;
 
 // The matrix whose entries are the triplets, stored zeros kept, at the front of the lent memory; or
-// the lowest of 1, 2, 3, 6, 8, 9 and 14 that applies, and the memory as it came. The five parts stand
-// alone here: a `Matrix` shares them, and these are written.
+// the lowest of 1, 2, 3, 6, 8, 9 and 14 that applies, and the memory as it came. The parts stand alone
+// here: the slices of a `Matrix` are shared, and these three are written.
 pub fn from_triplets(
     p: u32,
     nrows: u32,

@@ -69,6 +69,7 @@ where
         let (run, behind) = copies(rest)?;
         left = left.checked_sub(run.many)?;
         to = put_copies(run, to, into)?;
+        // No `?`: the list ends well here.
         let Some(next) = past(behind, b',') else {
             return Some((behind, to));
         };
@@ -94,6 +95,7 @@ where
 // The element, or the copies of one, that the text starts with.
 fn copies(text: &[u8]) -> Option<(Run, &[u8])> {
     let (value, rest) = digits(text)?;
+    // No `?`: the value stands once.
     let Some(rest) = past(rest, b'*') else {
         return Some((Run { value, many: 1 }, rest));
     };
