@@ -53,7 +53,14 @@ fn names_other(nrows: u32, pivots: &[u32]) -> bool
 fn times_named(pivots: &[u32], row: u32) -> usize
     ensures { result ≡ count (eqb row) pivots.now }
 {
-    pivots.iter().filter(|named| row == **named).count()
+    let mut times = 0;
+    // A loop: `filter` and `count` take twice as long.
+    for named in pivots {
+        if row == *named {
+            times += 1;
+        }
+    }
+    times
 }
 
 // Whether the table names some row not exactly once. No row has the mark's number, so counting in

@@ -21,8 +21,12 @@ fn inverted(table: &[u32], place: usize) -> usize
     ensures { result ≡ Value.inverted table.now place }
 {
     let here = table[place];
-    table[..place]
-        .iter()
-        .filter(|before| here < **before)
-        .count()
+    let mut many = 0;
+    // A loop: `filter` and `count` take twice as long.
+    for before in &table[..place] {
+        if here < *before {
+            many += 1;
+        }
+    }
+    many
 }

@@ -1,23 +1,23 @@
--- `count_from` meets its contract: std's count of what passes is the contract's.
-use mathlib.Core.Path.{◌≡◌, refl, sym, ◌∙◌}
-use mathlib.Core.Bool.{Bool, true, false, cond}
-use mathlib.Core.List.{List}
-use Prim.Native.Nat.{ℕ, ◌+◌}
+-- `count_from` meets its contract: each turn counts one column or passes over it.
+-- Assumes nothing.
 use native.Mathlib.Omega.{arith}
-use lib.Dec.{leb}
-use borrow.Author.Rules.{rules}
-use Rattle.std.specs.List.{count_by}
-use Rattle.std.proofs.lemmas.List.Recursion.{is_count_by}
-use Rattle.lists.specs.Find.{count}
+use borrow.Author.Tests.{le-leb, lt-leb}
+use Rattle.lists.proofs.Scans.{counted_none, counted_hit, counted_miss, counted_few, counted_all}
 use Rattle.moves.proofs.halves.count_from.Goals as goal
+use Rattle.moves.proofs.halves.count_from.Goals.{then-h-col, else-h-col}
 
-counted : (h : ℕ) (xs : List ℕ) → count (leb h) xs ≡ count_by (leb h) xs
-unfolding count
-counted h = is_count_by (count (leb h)) (leb h) refl (λ x xs. one_more (leb h x) (count (leb h) xs))
-  where
-    one_more : (b : Bool) (n : ℕ) → cond b 1 0 + n ≡ cond b (1 + n) n
-    one_more true n = refl
-    one_more false n = omega arith
+pub loop-col-init : goal.loop-col-init
+loop-col-init c = counted_none _ _
+
+pub overflow_add-found : goal.overflow_add-found
+overflow_add-found c = omega (arith, counted_few _ _ _ _ c.loop-col.invariant)
+
+pub loop-col-preserved : goal.loop-col-preserved
+loop-col-preserved c =
+    elim c.if-h-col.branch [
+      | then-h-col w ↦ rw w.found-is (counted_hit _ _ _ _ 0 c.loop-col.invariant c.loop-col-test.true (le-leb _ _ w.if-h-col.true))
+      | else-h-col w ↦ rw w.found-is (counted_miss _ _ _ _ 0 c.loop-col.invariant c.loop-col-test.true (lt-leb _ _ w.if-h-col.false))
+    ]
 
 pub returns : goal.returns
-returns c = let e : c.count.result ≡ count_by (leb c.args.h) c.args.cols.now = search rules in e ∙ sym (counted c.args.h c.args.cols.now)
+returns c = counted_all _ _ _ _ c.loop-col.invariant c.loop-col-test.false
