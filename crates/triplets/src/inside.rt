@@ -139,6 +139,10 @@ fn row_end(rows: &[u32], start: usize, row: u32) -> usize
     requires { RowStart rows.now row start }
     ensures { result ≡ start_of rows.now (row + 1) }
 {
+    // Behind the last triplet no loop is begun: many rows may stand there.
+    if start == rows.len() {
+        return start;
+    }
     for stop in start..rows.len() {
         if rows[stop] > row {
             return stop;
