@@ -3,7 +3,7 @@
 // A matrix is a `Matrix`, a vector (len, idcs, values). The modulus p stands first in every call.
 #![tactic(auto)]
 
-ghost use Rattle.std.specs.Prelude.{◌≡◌};
+ghost use Rattle.std.specs.Prelude.{◌≡◌, ◌++◌, Some, codes, decimal};
 ghost use Rattle.sparse.specs.Refusals.{number};
 
 use std::error::Error;
@@ -59,6 +59,8 @@ impl From<Refusal> for u32 {
 }
 
 impl fmt::Display for Refusal {
+    ghost output = { λ why. Some (codes "refused " ++ decimal (number why)) };
+
     fn fmt<W: fmt::Write>(&self, f: &mut fmt::Formatter<W>) -> fmt::Result {
         write!(f, "refused {}", u32::from(*self))
     }
