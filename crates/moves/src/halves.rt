@@ -60,7 +60,7 @@ fn count_from(h: u32, cols: &[u32]) -> usize
     ensures { result ≡ count (leb h) cols.now }
 {
     let mut found = 0;
-    // A loop: `filter` and `count` take twice as long.
+    // A loop: `filter` and `count` take over twice the instructions.
     for col in cols {
         if h <= *col {
             found += 1;
@@ -135,7 +135,7 @@ fn put_right(
     ensures { put result out_cols.new out_vals.new ≡ more (right_of h (entries cols.now vals.now)) (put at out_cols.old out_vals.old) }
 {
     let mut next = at;
-    // By number: `zip` over both takes a sixth more time.
+    // By number: with `zip` over both the whole call takes a quarter more instructions.
     for (k, &col) in cols.iter().enumerate() {
         if col < h {
             continue;

@@ -54,7 +54,7 @@ fn times_named(pivots: &[u32], row: u32) -> usize
     ensures { result ≡ count (eqb row) pivots.now }
 {
     let mut times = 0;
-    // A loop: `filter` and `count` take twice as long.
+    // A loop: `filter` and `count` take over twice the instructions.
     for named in pivots {
         if row == *named {
             times += 1;

@@ -22,7 +22,7 @@ fn inverted(table: &[u32], place: usize) -> usize
 {
     let here = table[place];
     let mut many = 0;
-    // A loop: `filter` and `count` take twice as long.
+    // A loop: `filter` and `count` take over twice the instructions.
     for before in &table[..place] {
         if here < *before {
             many += 1;
